@@ -1,0 +1,77 @@
+-- The checking calculation settles whether a certificate is good.
+use Rattle.std.specs.Prelude.{◌≡◌, ℕ, suc, List, [], ◌∷◌, length, map, Option, Some, None, Ok}
+use Rattle.std.proofs.Common.{sym, ◌∙◌, ap, refl}
+use Rattle.rational.specs.Rational.{ℚ}
+use Rattle.rational.specs.Order.{same_fields, same_fields_lem, same_fields_self}
+use Rattle.program_law.specs.Tests.{is_negative}
+use Rattle.program_law.proofs.Numbers.{negative_below, below_negative}
+use Rattle.program_law.specs.Vectors.{form}
+use Rattle.program_law.specs.Program.{Program, bounds, bounds_of, IsProgram}
+use Rattle.program_law.specs.Columns.{IsPoint, value}
+use Rattle.certificate_law.specs.declared.Node.{Node}
+use Rattle.certificate_law.specs.declared.Certificate.{Certificate}
+use Rattle.certificate_law.specs.declared.Certificate.TheVariants.{Optimal, Infeasible, Unbounded, NotConvex}
+use Rattle.certificate_law.specs.Tree.{IsGoodTree}
+use Rattle.program_law.specs.Verdict.{IsTrueOf}
+use Rattle.certificate_law.specs.Good.{IsGood, verdict_of}
+use Rattle.certificate_law.proofs.Verdicts.{good_is_true}
+use Rattle.check_law.specs.Chain.{◌>>=◌, test, NoTestFails}
+use Rattle.check_law.specs.Point.{point_test}
+use Rattle.check_law.specs.Value.{value_of, form_of}
+use Rattle.check_law.specs.Squares.{squares_test}
+use Rattle.check_law.specs.Tree.{tree_test}
+use Rattle.check_law.specs.Ray.{ray_test}
+use Rattle.check_law.specs.Check.{checked}
+use Rattle.check_law.specs.Fits.{FitsTree, Fits}
+use Rattle.check_law.proofs.Settled.{Settles, joined, after, converted, tested, shown, passes}
+use Rattle.check_law.proofs.Products.{form_settles, value_settles}
+use Rattle.check_law.proofs.Points.{point_settles}
+use Rattle.check_law.proofs.Pairs.{squares_settle}
+use Rattle.check_law.proofs.Trees.{nodes_settle}
+use Rattle.check_law.proofs.Rays.{ray_settles}
+
+mapped : {A B : Type 0} (f : A → B) (xs : List A) → length (map f xs) ≡ length xs
+mapped f [] = refl
+mapped f (x ∷ xs) = ap (λ (n : ℕ). suc n) (mapped f xs)
+
+tree_settles : (p : Program) (v : Option ℚ) (tree : List Node) → FitsTree p tree → Settles (tree_test p v (bounds p) tree) tt (IsGoodTree p v (bounds p) tree)
+tree_settles p v tree fit = nodes_settle p v tree 1 (bounds p ∷ []) (sym (mapped (λ r. r.1) p.rows)) fit.tree fit.nodes_fit
+
+in_place : (p : Program) (x : List ℚ) → IsProgram p → length x ≡ length p.columns → Settles (point_test p (bounds p) x) tt (IsPoint p (bounds p) x)
+in_place p x is n =
+    point_settles p (bounds p) x (mapped (λ r. r.1) p.rows ∙ sym is.height) (mapped (λ c. bounds_of c.1) p.columns ∙ sym n) (mapped (λ c. c.1.whole) p.columns ∙ sym n)
+
+pub certificate_settles : (p : Program) (c : Certificate) → IsProgram p → Fits p c → Settles (checked p c) tt (IsGood p c)
+certificate_settles p (Optimal x v squares tree) is fit =
+    let t = value p x in
+    converted (checked p (Optimal x v squares tree))
+    (λ h. record { point = h.0; has_value = h.1.0; has_squares = h.1.1.0; bounded = h.1.1.1 })
+    (λ h. (h.point, (h.has_value, (h.has_squares, h.bounded))))
+    (joined (point_test p (bounds p) x) (λ _. value_of p x >>= λ t. test (same_fields t v) 4 0 >>= λ _. squares_test p squares >>= λ _. tree_test p (Some v) (bounds p) tree) (in_place p x is fit.0)
+    (λ _. after (value_of p x) (λ t. test (same_fields t v) 4 0 >>= λ _. squares_test p squares >>= λ _. tree_test p (Some v) (bounds p) tree) (value_settles p x)
+    (joined (test (same_fields t v) 4 0) (λ _. squares_test p squares >>= λ _. tree_test p (Some v) (bounds p) tree)
+    (tested (same_fields t v) 4 0 (same_fields_lem t v) (λ e. same_fields_self t v e))
+    (λ _. joined (squares_test p squares) (λ _. tree_test p (Some v) (bounds p) tree) (squares_settle p squares is fit.1)
+    (λ _. tree_settles p (Some v) tree fit.2)))))
+certificate_settles p (Infeasible tree) is fit = tree_settles p None tree fit.0
+certificate_settles p (Unbounded x d squares) is fit =
+    converted (checked p (Unbounded x d squares))
+    (λ h. record { point = h.0; ray = h.1.0; has_squares = h.1.1 })
+    (λ h. (h.point, (h.ray, h.has_squares)))
+    (joined (point_test p (bounds p) x) (λ _. ray_test p d >>= λ _. squares_test p squares) (in_place p x is fit.0)
+    (λ _. joined (ray_test p d) (λ _. squares_test p squares)
+    (ray_settles p d (mapped (λ r. r.1) p.rows ∙ sym is.height) (mapped (λ c. bounds_of c.1) p.columns ∙ sym fit.1))
+    (λ _. squares_settle p squares is fit.2)))
+certificate_settles p (NotConvex v) is fit =
+    let h = form p.pairs v v in
+    after (form_of p.pairs v) (λ h. test (is_negative h) 15 0) (form_settles p.pairs v)
+    (tested (is_negative h) 15 0 (negative_below h) (below_negative h))
+
+pub no_event_is_good : (p : Program) (c : Certificate) → IsProgram p → Fits p c → checked p c ≡ Ok tt → IsGood p c
+no_event_is_good p c is fit e = shown (checked p c) tt tt (certificate_settles p c is fit) e
+
+pub good_passes : (p : Program) (c : Certificate) → IsProgram p → Fits p c → IsGood p c → NoTestFails (checked p c)
+good_passes p c is fit good = passes (checked p c) tt (certificate_settles p c is fit) good
+
+pub no_event_is_true : (p : Program) (c : Certificate) → IsProgram p → Fits p c → checked p c ≡ Ok tt → IsTrueOf p (verdict_of c)
+no_event_is_true p c is fit e = good_is_true p c (no_event_is_good p c is fit e)

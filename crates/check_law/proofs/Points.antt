@@ -1,0 +1,103 @@
+-- The tests of a point settle whether it is one.
+use Rattle.std.specs.Prelude.{◌≡◌, ℕ, suc, List, [], ◌∷◌, length, Option, Some, None, IfSome, Bool, true, false, ◌&&◌, ◌==◌}
+use Rattle.std.proofs.Common.{arith, sym, refl}
+use Rattle.std.proofs.lemmas.Bool.Decides.{nat_tests}
+use Rattle.rational.specs.Rational.{ℚ}
+use Rattle.rational.specs.Order.{◌≤ℚ◌}
+use Rattle.program_law.proofs.Numbers.{le_tested, le_test}
+use Rattle.program_law.specs.declared.Row.{Row}
+use Rattle.program_law.specs.Vectors.{dot, times}
+use Rattle.program_law.specs.Region.{Region}
+use Rattle.program_law.specs.Program.{Program, sides, marks}
+use Rattle.program_law.specs.Point.{IsWithin}
+use Rattle.program_law.specs.Columns.{AllWithin, IsWhole, AreWholeOn, IsPoint}
+use Rattle.check_law.specs.Chain.{◌>>=◌, test}
+use Rattle.check_law.specs.Dot.{dot_of}
+use Rattle.check_law.specs.Point.{is_above_low, is_below_high, is_within, keeps_mark, row_within, rows_within, column_within, columns_within, point_test}
+use Rattle.check_law.proofs.Settled.{Settles, done, joined, after, converted, tested}
+use Rattle.check_law.proofs.Products.{dot_is}
+
+pub longer : {A : Type 0} (x : A) (xs : List A) → length (x ∷ xs) ≡ 0 → ⊥
+longer x xs e = omega (arith, e)
+
+pub shorter : {A B : Type 0} (x : A) (xs : List A) (y : B) (ys : List B) → length (x ∷ xs) ≡ length (y ∷ ys) → length xs ≡ length ys
+shorter x xs y ys e = omega (arith, e)
+
+pub and_parts : (a b : Bool) → (a && b) ≡ true → (a ≡ true) × (b ≡ true)
+and_parts true b e = (refl, e)
+and_parts false b e = absurd (no e)
+  where
+    no : false ≡ true → ⊥
+    no e = cc
+
+pub and_both : (a b : Bool) → a ≡ true → b ≡ true → (a && b) ≡ true
+and_both true b e f = f
+and_both false b e f = e
+
+low_tells : (o : Option ℚ) (x : ℚ) → (is_above_low o x ≡ true → IfSome o (λ l. l ≤ℚ x)) × (IfSome o (λ l. l ≤ℚ x) → is_above_low o x ≡ true)
+low_tells None x = (λ e. tt, λ h. refl)
+low_tells (Some l) x = (le_tested l x, le_test l x)
+
+high_tells : (o : Option ℚ) (x : ℚ) → (is_below_high o x ≡ true → IfSome o (λ h. x ≤ℚ h)) × (IfSome o (λ h. x ≤ℚ h) → is_below_high o x ≡ true)
+high_tells None x = (λ e. tt, λ h. refl)
+high_tells (Some h) x = (le_tested x h, le_test x h)
+
+within_tells : (s : Row) (x : ℚ) → (is_within s x ≡ true → IsWithin s x) × (IsWithin s x → is_within s x ≡ true)
+within_tells s x =
+    let low = low_tells s.low x in let high = high_tells s.high x in (
+      λ e. let both = and_parts (is_above_low s.low x) (is_below_high s.high x) e in record { low = low.0 both.0; high = high.0 both.1 },
+      λ w. and_both (is_above_low s.low x) (is_below_high s.high x) (low.1 w.low) (high.1 w.high),
+    )
+
+mark_tells : (m : Bool) (x : ℚ) → (keeps_mark m x ≡ true → m ≡ true → IsWhole x) × ((m ≡ true → IsWhole x) → keeps_mark m x ≡ true)
+mark_tells true x = (λ e f. one x.den e, λ h. test_one x.den (h refl))
+  where
+    one : (d : ℕ) → (d == 1) ≡ true → d ≡ 1
+    one d e = grind (arith, nat_tests)
+
+    test_one : (d : ℕ) → d ≡ 1 → (d == 1) ≡ true
+    test_one d e = grind (arith, nat_tests)
+mark_tells false x = (λ e f. absurd (no f), λ h. refl)
+  where
+    no : false ≡ true → ⊥
+    no e = cc
+
+row_settles : (place : ℕ) (s : Row) (row x : List ℚ) → Settles (row_within place s row x) tt (IsWithin s (dot row x))
+unfolding row_within
+row_settles place s row x =
+    let tells = within_tells s (dot row x) in
+    after (dot_of row x) (λ t. test (is_within s t) 1 place) (dot_is row x) (tested (is_within s (dot row x)) 1 place tells.0 tells.1)
+
+rows_settle : (place : ℕ) (ss : List Row) (rows : List (List ℚ)) (x : List ℚ) → length ss ≡ length rows → Settles (rows_within place ss rows x) tt (AllWithin ss (times rows x))
+rows_settle place [] [] x n = done tt tt
+rows_settle place [] (row ∷ rows) x n = absurd (longer row rows (sym n))
+rows_settle place (s ∷ ss) [] x n = absurd (longer s ss n)
+rows_settle place (s ∷ ss) (row ∷ rows) x n =
+    joined (row_within place s row x) (λ _. rows_within (suc place) ss rows x) (row_settles place s row x)
+    (λ _. rows_settle (suc place) ss rows x (shorter s ss row rows n))
+
+column_settles : (place : ℕ) (b : Row) (m : Bool) (x : ℚ) → Settles (column_within place b m x) tt (IsWithin b x × (m ≡ true → IsWhole x))
+unfolding column_within
+column_settles place b m x =
+    let within = within_tells b x in let mark = mark_tells m x in
+    joined (test (is_within b x) 2 place) (λ _. test (keeps_mark m x) 3 place) (tested (is_within b x) 2 place within.0 within.1)
+    (λ _. tested (keeps_mark m x) 3 place mark.0 mark.1)
+
+columns_settle : (place : ℕ) (bs : Region) (ms : List Bool) (xs : List ℚ) → length bs ≡ length xs → length ms ≡ length xs → Settles (columns_within place bs ms xs) tt (AllWithin bs xs × AreWholeOn ms xs)
+columns_settle place [] [] [] n m = done tt (tt, tt)
+columns_settle place [] (mark ∷ ms) [] n m = absurd (longer mark ms m)
+columns_settle place [] ms (x ∷ xs) n m = absurd (longer x xs (sym n))
+columns_settle place (b ∷ bs) ms [] n m = absurd (longer b bs n)
+columns_settle place (b ∷ bs) [] (x ∷ xs) n m = absurd (longer x xs (sym m))
+columns_settle place (b ∷ bs) (mark ∷ ms) (x ∷ xs) n m =
+    converted (columns_within place (b ∷ bs) (mark ∷ ms) (x ∷ xs)) (λ p. ((p.0.0, p.1.0), (p.0.1, p.1.1))) (λ p. ((p.0.0, p.1.0), (p.0.1, p.1.1)))
+    (joined (column_within place b mark x) (λ _. columns_within (suc place) bs ms xs) (column_settles place b mark x)
+    (λ _. columns_settle (suc place) bs ms xs (shorter b bs x xs n) (shorter mark ms x xs m)))
+
+pub point_settles : (p : Program) (region : Region) (x : List ℚ) → length (sides p) ≡ length p.entries → length region ≡ length x → length (marks p) ≡ length x → Settles (point_test p region x) tt (IsPoint p region x)
+unfolding point_test
+point_settles p region x n m k =
+    converted (rows_within 1 (sides p) p.entries x >>= λ _. columns_within 1 region (marks p) x)
+    (λ h. record { relaxed = record { rows = h.0; columns = h.1.0 }; whole = h.1.1 }) (λ h. (h.relaxed.rows, (h.relaxed.columns, h.whole)))
+    (joined (rows_within 1 (sides p) p.entries x) (λ _. columns_within 1 region (marks p) x) (rows_settle 1 (sides p) p.entries x n)
+    (λ _. columns_settle 1 region (marks p) x m k))

@@ -1,0 +1,47 @@
+//! What a program is, its points, their values, and the verdicts on it.
+#![tactic(auto)]
+
+ghost use Rattle.std.specs.Prelude.{◌≡◌, ◌↔◌, List};
+ghost use Rattle.rational.specs.Rational.{ℚ};
+ghost use Rattle.program_law.specs.Region.{Region};
+ghost use Rattle.program_law.specs.Program.{Program};
+ghost use Rattle.program_law.specs.Point.{Point, IsRelaxedIn, IsFeasibleIn};
+ghost use Rattle.program_law.specs.Value.{value_of};
+ghost use Rattle.program_law.specs.Verdict.{columns_of};
+ghost use Rattle.program_law.specs.Columns.{IsRelaxedPoint, IsPoint, value};
+
+use frac_core::{Frac, Vector};
+
+/// A row's low and high side, or a column's low and high bound. Each may be absent.
+#[derive(Clone, Copy)]
+pub struct Row {
+    pub low: Option<Frac>,
+    pub high: Option<Frac>,
+}
+
+/// A column's bounds, and whether its value is to be whole.
+#[derive(Clone, Copy)]
+pub struct Column {
+    pub low: Option<Frac>,
+    pub high: Option<Frac>,
+    pub whole: bool,
+}
+
+/// The square of a linear form, with a weight.
+#[derive(Drop)]
+pub struct Square {
+    pub weight: Frac,
+    pub coef: Vector<Frac>,
+}
+
+/// A point, whole numbers over a denominator, says the same as its columns, and each list of exact numbers is the
+/// columns of a point.
+pub fn points_are_their_columns()
+    ensures relaxed { (program : Program) (region : Region) (point : Point) →
+        IsRelaxedIn program region point ↔ IsRelaxedPoint program region (columns_of point) }
+    ensures feasible { (program : Program) (region : Region) (point : Point) →
+        IsFeasibleIn program region point ↔ IsPoint program region (columns_of point) }
+    ensures value { (program : Program) (point : Point) →
+        value_of program point ≡ value program (columns_of point) }
+    ensures every { (x : List ℚ) → (point : Point) × (columns_of point ≡ x) }
+{}
