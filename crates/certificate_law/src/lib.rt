@@ -20,7 +20,7 @@ ghost use Rattle.certificate_law.specs.Ray.{IsRay};
 ghost use Rattle.certificate_law.specs.Good.{IsGood, verdict_of};
 
 use frac_core::{Frac, Vector};
-use program_law::Square;
+use program_law::Squares;
 use std::marker::Model;
 
 /// A node of a tree.
@@ -52,21 +52,6 @@ impl Model for Tree {
     ghost view = { λ t. t.nodes.items };
 
     ghost invariant = { λ t. IsOneTree t.nodes.items };
-}
-
-/// A list of squares.
-#[derive(Drop)]
-pub struct Squares {
-    items: Vec<Square>,
-}
-
-impl Model for Squares {
-    ghost use Rattle.std.specs.Prelude.{List};
-    ghost use Rattle.program_law.specs.declared.Square.{Square};
-
-    ghost Value = { List Square };
-
-    ghost view = { λ s. s.items.items };
 }
 
 /// A claim on a program, with what shows it.

@@ -1,7 +1,7 @@
 //! What a program is, its points, their values, and the verdicts on it.
 #![tactic(auto)]
 
-ghost use Rattle.std.specs.Prelude.{◌≡◌, ◌↔◌, List};
+ghost use Rattle.std.specs.Prelude.{◌≡◌, ◌↔◌, ◌<◌, ◌∷◌, ◌++◌, [], List, Some, length, slice_get, OnOk, OnErr};
 ghost use Rattle.rational.specs.Rational.{ℚ};
 ghost use Rattle.program_law.specs.Region.{Region};
 ghost use Rattle.program_law.specs.Program.{Program};
@@ -10,7 +10,9 @@ ghost use Rattle.program_law.specs.Value.{value_of};
 ghost use Rattle.program_law.specs.Verdict.{columns_of};
 ghost use Rattle.program_law.specs.Columns.{IsRelaxedPoint, IsPoint, value};
 
-use frac_core::{Frac, Vector};
+use frac_core::{Frac, Memory, Vector};
+use std::alloc::Global;
+use std::marker::Model;
 
 /// A row's low and high side, or a column's low and high bound. Each may be absent.
 #[derive(Clone, Copy)]
@@ -32,6 +34,56 @@ pub struct Column {
 pub struct Square {
     pub weight: Frac,
     pub coef: Vector<Frac>,
+}
+
+/// A list of squares.
+#[derive(Drop)]
+pub struct Squares {
+    items: Vec<Square>,
+}
+
+impl Model for Squares {
+    ghost use Rattle.std.specs.Prelude.{List};
+    ghost use Rattle.program_law.specs.declared.Square.{Square};
+
+    ghost Value = { List Square };
+
+    ghost view = { λ s. s.items.items };
+}
+
+impl Squares {
+    /// No squares.
+    pub fn start(alloc: Global) -> Self
+        ensures { result ≡ [] }
+    {
+        Squares {
+            items: Vec::new(alloc),
+        }
+    }
+
+    /// Puts a square last.
+    pub fn push(&mut self, square: Square) -> Result<(), Memory>
+        ensures ok { OnOk result (self.new ≡ self.old ++ square ∷ []) }
+        ensures err { OnErr result (self.new ≡ self.old) }
+    {
+        self.items.push(square)?;
+        Ok(())
+    }
+
+    /// How many squares there are.
+    pub fn len(&self) -> usize
+        ensures { result ≡ length self.now }
+    {
+        self.items.len()
+    }
+
+    /// The square at a place.
+    pub fn get(&self, k: usize) -> &Square
+        requires { k < length self.now }
+        ensures { slice_get self.now k ≡ Some result.now }
+    {
+        &self.items[k]
+    }
 }
 
 /// A point, whole numbers over a denominator, says the same as its columns, and each list of exact numbers is the
