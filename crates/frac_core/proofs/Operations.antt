@@ -13,7 +13,7 @@ use Rattle.frac_core.specs.declared.fractions.Refused.{Refused}
 use Rattle.frac_core.specs.declared.fractions.Tried.{Tried}
 use Rattle.frac_core.specs.declared.fractions.Tried.TheVariants.{Is, Past}
 use Rattle.frac_core.specs.Calculated.{tried_in, and_then, exact_of}
-use Rattle.frac_core.specs.Operations.{operation, IsWithin, IsPast, IsFirstPast, Tries}
+use Rattle.frac_core.specs.Operations.{operation, IsWithin, IsFirstPast, Tries}
 use Rattle.frac_core.specs.Dot.{dot_step, dot_from, dot_of, place_ops, dot_ops_from, dot_ops}
 use Rattle.frac_core.proofs.Values.{tried-value, dot_step-value}
 
