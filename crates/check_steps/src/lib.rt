@@ -145,3 +145,114 @@ pub fn dot_with(xs: &[Frac], ys: &Vector<Frac>) -> Result<Frac, Event>
     }
     Ok(total)
 }
+
+/// The product of two vectors.
+pub fn dot_onto(xs: &Vector<Frac>, ys: &[Frac]) -> Result<Frac, Event>
+    requires { length xs.now ≡ length ys.now }
+    ensures { result ≡ dot_of xs.now ys.now }
+{
+    let mut total = Frac::whole(0);
+    for i in 0..ys.len() {
+        total = product_added(total, entry(xs, i), ys[i])?;
+    }
+    Ok(total)
+}
+
+/// The side that a multiplier takes: the low one where it is above 0, else the high one.
+pub fn side_of(y: Frac, sides: Row) -> Option<Frac>
+    ensures { result ≡ side_for y sides }
+{
+    if is_positive(y) {
+        sides.low
+    } else {
+        sides.high
+    }
+}
+
+/// The sum with a multiplier times its side, at a node of a tree. A multiplier 0 makes no operation and no test.
+#[tactic(auto, unfolding(check_law::specs::Leaf::with_side))]
+pub fn side_added(node: u32, total: Frac, y: Frac, sides: Row) -> Result<Frac, Event>
+    ensures { result ≡ with_side node total y sides }
+{
+    if is_zero(y) {
+        return Ok(total);
+    }
+    let Some(side) = side_of(y, sides) else {
+        return Err(Event::Failed {
+            rule: 7,
+            place: node,
+        });
+    };
+    let product = product(y, side)?;
+    sum(total, product)
+}
+
+/// Whether a number is at least a low side, where there is one.
+pub fn above_low(low: Option<Frac>, x: Frac) -> bool
+    ensures { result ≡ is_above_low low x }
+{
+    match low {
+        None => true,
+        Some(low) => at_most(low, x),
+    }
+}
+
+/// Whether a number is at most a high side, where there is one.
+pub fn below_high(high: Option<Frac>, x: Frac) -> bool
+    ensures { result ≡ is_below_high high x }
+{
+    match high {
+        None => true,
+        Some(high) => at_most(x, high),
+    }
+}
+
+/// Whether a number is within its sides.
+pub fn within(sides: Row, x: Frac) -> bool
+    ensures { result ≡ is_within sides x }
+{
+    above_low(sides.low, x) && below_high(sides.high, x)
+}
+
+/// Whether a number is whole where it is marked.
+pub fn whole_if(marked: bool, x: Frac) -> bool
+    ensures { result ≡ keeps_mark marked x }
+{
+    if marked { x.is_whole() } else { true }
+}
+
+/// The test that a row's sum at a point is within its sides.
+#[tactic(auto, unfolding(check_law::specs::Point::row_within))]
+pub fn row_tested(
+    place: u32,
+    sides: Row,
+    row: &[Frac],
+    x: &Vector<Frac>,
+) -> Result<(), Event>
+    requires { length row.now ≡ length x.now }
+    ensures { result ≡ row_within place sides row.now x.now }
+{
+    let total = dot_with(row, x)?;
+    tested(within(sides, total), 1, place)
+}
+
+/// The tests of a column's number: it is within its bounds, and whole where it is marked.
+#[tactic(auto, unfolding(check_law::specs::Point::column_within))]
+pub fn column_tested(place: u32, bounds: Row, marked: bool, x: Frac) -> Result<(), Event>
+    ensures { result ≡ column_within place bounds marked x }
+{
+    tested(within(bounds, x), 2, place)?;
+    tested(whole_if(marked, x), 3, place)
+}
+
+/// A row of the form times a vector, and 0 where the row's own entry of the vector is 0.
+#[tactic(auto, unfolding(check_law::specs::Value::row_product))]
+pub fn row_product(row: &[Frac], own: Frac, x: &Vector<Frac>) -> Result<Frac, Event>
+    requires { length row.now ≡ length x.now }
+    ensures { result ≡ row_product row.now own x.now }
+{
+    if is_zero(own) {
+        return Ok(Frac::whole(0));
+    }
+    dot_with(row, x)
+}

@@ -1,0 +1,110 @@
+// The tests of a leaf.
+
+ghost use Rattle.std.specs.Prelude.{◌≡◌, ◌<◌, length};
+ghost use Rattle.rational.specs.Rational.{zero_ℚ};
+ghost use Rattle.program_law.specs.Program.{sides};
+ghost use Rattle.program_law.specs.Vectors.{column};
+ghost use Rattle.check_law.specs.Dot.{dot_of};
+ghost use Rattle.check_law.specs.Leaf.{with_rows, with_column, with_columns, no_gradient_at, leaf_sum, farkas_test};
+
+use crate::reading::{entries_of, row_count, sides_of};
+use check_law::Event;
+use check_steps::{difference, entry, is_positive, product_added, side_added, tested};
+use frac_core::{Frac, Vector};
+use program_law::Row;
+use program_model::Program;
+
+// The sum, from 0, of each row's multiplier times its side.
+fn rows_added(p: &Program, node: u32, y: &Vector<Frac>) -> Result<Frac, Event>
+    requires { length y.now ≡ length p.now.rows }
+    ensures { result ≡ with_rows node zero_ℚ y.now (sides p.now) }
+{
+    let mut sum = Frac::whole(0);
+    for i in 0..row_count(p) {
+        sum = side_added(node, sum, entry(y, i as usize), sides_of(p, i))?;
+    }
+    Ok(sum)
+}
+
+// A column of A times the rows' multipliers.
+fn column_dot(p: &Program, j: usize, y: &Vector<Frac>) -> Result<Frac, Event>
+    requires rows { length y.now ≡ length p.now.rows }
+    requires place { j < length p.now.columns }
+    ensures { result ≡ dot_of (column p.now.entries j) y.now }
+{
+    let mut total = Frac::whole(0);
+    for i in 0..row_count(p) {
+        let row = entries_of(p, i);
+        total = product_added(total, row[j], entry(y, i as usize))?;
+    }
+    Ok(total)
+}
+
+// The sum with a column's residual times its bound, where there is no gradient.
+#[tactic(auto, unfolding(check_law::specs::Leaf::with_column))]
+fn farkas_column_added(
+    p: &Program,
+    node: u32,
+    y: &Vector<Frac>,
+    j: usize,
+    total: Frac,
+    bounds: Row,
+) -> Result<Frac, Event>
+    requires rows { length y.now ≡ length p.now.rows }
+    requires place { j < length p.now.columns }
+    ensures { result ≡ with_column node no_gradient_at p.now.entries y.now j total bounds }
+{
+    let product = column_dot(p, j, y)?;
+    let residual = difference(Frac::whole(0), product)?;
+    side_added(node, total, residual, bounds)
+}
+
+// The sum with all columns, where there is no gradient.
+fn farkas_columns_added(
+    p: &Program,
+    node: u32,
+    region: &[Row],
+    y: &Vector<Frac>,
+    total: Frac,
+) -> Result<Frac, Event>
+    requires rows { length y.now ≡ length p.now.rows }
+    requires region { length region.now ≡ length p.now.columns }
+    ensures { result ≡ with_columns node no_gradient_at p.now.entries y.now 0 total region.now }
+{
+    let mut sum = total;
+    for j in 0..region.len() {
+        sum = farkas_column_added(p, node, y, j, sum, region[j])?;
+    }
+    Ok(sum)
+}
+
+#[tactic(auto, unfolding(check_law::specs::Leaf::leaf_sum))]
+fn farkas_sum(
+    p: &Program,
+    node: u32,
+    region: &[Row],
+    y: &Vector<Frac>,
+) -> Result<Frac, Event>
+    requires rows { length y.now ≡ length p.now.rows }
+    requires region { length region.now ≡ length p.now.columns }
+    ensures { result ≡ leaf_sum p.now node no_gradient_at region.now y.now }
+{
+    let rows = rows_added(p, node, y)?;
+    farkas_columns_added(p, node, region, y, rows)
+}
+
+/// The test of a FARKAS leaf.
+#[tactic(auto, unfolding(check_law::specs::Leaf::farkas_test))]
+pub fn farkas_tested(
+    p: &Program,
+    node: u32,
+    region: &[Row],
+    y: &Vector<Frac>,
+) -> Result<(), Event>
+    requires rows { length y.now ≡ length p.now.rows }
+    requires region { length region.now ≡ length p.now.columns }
+    ensures { result ≡ farkas_test p.now node region.now y.now }
+{
+    let sum = farkas_sum(p, node, region, y)?;
+    tested(is_positive(sum), 9, node)
+}

@@ -1,0 +1,7 @@
+//! The checker of certificates.
+#![tactic(auto)]
+
+mod leaves;
+mod points;
+mod rays;
+mod reading;
