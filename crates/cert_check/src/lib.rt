@@ -5,3 +5,5 @@ mod leaves;
 mod points;
 mod rays;
 mod reading;
+mod squares;
+mod values;
