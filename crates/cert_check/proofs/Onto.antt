@@ -2,6 +2,7 @@
 use Rattle.std.specs.Prelude.{◌≡◌, List, [], ◌∷◌, ◌++◌, Result, Ok, Err, pos}
 use Rattle.std.proofs.Common.{refl, sym, ◌∙◌, ap, append_assoc, append-nil}
 use Rattle.rational.specs.Rational.{ℚ, whole}
+use Rattle.rational.proofs.Wholes.{num-whole}
 use Rattle.check_law.specs.declared.Event.{Event}
 use Rattle.check_law.specs.Chain.{◌>>=◌}
 use Rattle.check_law.specs.Value.{row_product, row_products}
@@ -33,8 +34,7 @@ pub all_onto : (rows : List (List ℚ)) (xs x : List ℚ) → products_onto [] r
 all_onto rows xs x = onto_is [] rows xs x ∙ alone (row_products rows xs x)
 
 pub two_differs : (q : ℚ) → q ≡ whole (pos 2) → q.num ≡ pos 0 → ⊥
-unfolding whole
-two_differs q e z = clash (sym (ap (λ (q : ℚ). q.num) e) ∙ z)
+two_differs q e z = clash (sym (num-whole (pos 2)) ∙ sym (ap (λ (q : ℚ). q.num) e) ∙ z)
   where
     clash : pos 2 ≡ pos 0 → ⊥
     clash e = cc

@@ -1,6 +1,7 @@
 //! The checker of certificates.
 #![tactic(auto)]
 
+mod cuts;
 mod leaves;
 mod points;
 mod rays;
