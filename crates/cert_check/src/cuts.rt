@@ -1,11 +1,12 @@
 // The region at hand in a walk over a tree, and the cuts that give back those that wait.
 
-ghost use Rattle.std.specs.Prelude.{◌≡◌, ◌<◌, ◌≤◌, ◌+◌, ◌∷◌, ◌++◌, [], length, reverse, IsOk, MatchOption, true, vec_len, vec_capacity};
+ghost use Rattle.std.specs.Prelude.{◌≡◌, ◌<◌, ◌≤◌, ◌+◌, ◌∷◌, [], length, reverse, MatchOption, true, vec_len, vec_capacity};
 ghost use Rattle.program_law.specs.Region.{smaller, larger, cut_high, cut_low};
 ghost use Rattle.cert_check.specs.Walk.{waiting_of, at_hand, AreWithin};
 
+use crate::room::put_last;
 use check_steps::at_most;
-use frac_core::{Frac, Memory};
+use frac_core::Frac;
 use program_law::Row;
 
 /// A bound that was cut on the way to the region at hand.
@@ -82,18 +83,6 @@ fn cut_low_at(region: &mut [Row], j: usize, k: Frac)
 {
     let cut = low_cut(region[j], k);
     region[j] = cut;
-}
-
-// Puts an item last, where there is room for it.
-fn put_last<T: Copy + Drop>(items: &mut Vec<T>, item: T) -> Result<(), Memory>
-    requires { vec_len items.old < vec_capacity items.old }
-    ensures ok { IsOk result }
-    ensures items { items.new.items ≡ items.old.items ++ item ∷ [] }
-    ensures len { vec_len items.new ≡ vec_len items.old + 1 }
-    ensures capacity { vec_capacity items.old ≤ vec_capacity items.new }
-{
-    items.push(item)?;
-    Ok(())
 }
 
 #[tactic(auto, using(crate::proofs::Walk::reverse_last))]

@@ -185,12 +185,12 @@ fn bound_sum(
 }
 
 // Whether a number is at least the value. Where there is no value none is.
-fn reaches(v: Option<Frac>, low: Frac) -> bool
-    ensures { result ≡ reaches v low }
+fn reaches(v: &Option<Frac>, low: Frac) -> bool
+    ensures { result ≡ reaches v.now low }
 {
     match v {
         None => false,
-        Some(v) => at_most(v, low),
+        Some(v) => at_most(*v, low),
     }
 }
 
@@ -198,7 +198,7 @@ fn reaches(v: Option<Frac>, low: Frac) -> bool
 #[tactic(auto, unfolding(check_law::specs::Leaf::bound_test))]
 pub fn bound_tested(
     p: &Program,
-    v: Option<Frac>,
+    v: &Option<Frac>,
     node: u32,
     region: &[Row],
     w: &Vector<Frac>,
@@ -209,7 +209,7 @@ pub fn bound_tested(
     requires width { length w.now ≡ length p.now.columns }
     requires region { length region.now ≡ length p.now.columns }
     requires room { length products.old ≡ length p.now.columns }
-    ensures { result ≡ bound_test p.now v node region.now w.now y.now }
+    ensures { result ≡ bound_test p.now v.now node region.now w.now y.now }
 {
     let sides = bound_sum(p, node, region, w, y)?;
     let half = half_form(p, w, products)?;

@@ -4,7 +4,7 @@ ghost use Rattle.std.specs.Prelude.{◌≡◌, length};
 ghost use Rattle.program_law.specs.Program.{sides, bounds, marks};
 ghost use Rattle.check_law.specs.Point.{rows_within, columns_within, point_test};
 
-use crate::reading::{bounds_of, column_count, entries_of, is_marked, row_count, sides_of};
+use crate::reading::{bounds_of, column_count, entries_of, mark_of, row_count, sides_of};
 use check_law::Event;
 use check_steps::{column_tested, entry, row_tested};
 use frac_core::{Frac, Vector};
@@ -27,7 +27,7 @@ fn columns_tested(p: &Program, x: &Vector<Frac>) -> Result<(), Event>
     ensures { result ≡ columns_within 1 (bounds p.now) (marks p.now) x.now }
 {
     for j in 0..column_count(p) {
-        column_tested(j + 1, bounds_of(p, j), is_marked(p, j), entry(x, j as usize))?;
+        column_tested(j + 1, bounds_of(p, j), mark_of(p, j), entry(x, j as usize))?;
     }
     Ok(())
 }

@@ -2,6 +2,7 @@
 
 ghost use Rattle.std.specs.Prelude.{◌≡◌, ◌≤◌, ◌<◌, length, slice_index_or};
 ghost use Rattle.program_law.specs.Program.{sides, bounds, marks};
+ghost use Rattle.certificate_law.specs.Tree.{is_marked};
 
 use frac_core::Frac;
 use program_law::Row;
@@ -63,13 +64,23 @@ pub fn bounds_of(p: &Program, j: u32) -> Row
     }
 }
 
-/// Whether a column is marked.
+/// A column's mark.
 #[tactic(auto, using(crate::proofs::Places::mark_found))]
-pub fn is_marked(p: &Program, j: u32) -> bool
+pub fn mark_of(p: &Program, j: u32) -> bool
     requires { j < length p.now.columns }
     ensures { result ≡ slice_index_or (marks p.now) j result }
 {
     p.column(j).whole
+}
+
+/// Whether a column is marked.
+#[tactic(auto, using(crate::proofs::Places::again))]
+pub fn is_marked(p: &Program, j: u32) -> bool
+    requires { j < length p.now.columns }
+    ensures { result ≡ is_marked (marks p.now) j }
+{
+    let _columns = column_count(p);
+    mark_of(p, j)
 }
 
 /// A row of the form.
