@@ -7,7 +7,9 @@ mod named;
 mod names;
 mod points;
 mod program;
+mod reading;
 mod regions;
+pub mod scratch;
 
 pub use faults::{AddFault, NameFault};
 pub use names::{Name, is_name};
