@@ -82,12 +82,15 @@ inside p region x g bounds wide ok point is =
 pub value_passes : (p : Program) (x : List ℚ) → NoTestFails (checked.value_of p x)
 value_passes p x = passes (checked.value_of p x) _ (value_settles p x) tt
 
-value_ends : (p : Program) (x : List ℚ) (v : ℚ) → Ok v ≡ checked.value_of p x → (point : Point) → columns_of point ≡ x → value_of p point ≡ v
+abbrev ok_of : ℚ → Result ℚ Event
+ok_of v = Ok v
+
+same_value : (v u : ℚ) → ok_of v ≡ ok_of u → v ≡ u
+same_value v u e = cc
+
+ended : (r : Result ℚ Event) (v w : ℚ) → ok_of v ≡ r → Settles r w (Unit {0}) → v ≡ w
+ended (Ok u) v w e s = same_value v u e ∙ s.ends.0
+ended (Err d) v w e s = absurd (cc)
+
+pub value_ends : (p : Program) (x : List ℚ) (v : ℚ) → Ok v ≡ checked.value_of p x → (point : Point) → columns_of point ≡ x → value_of p point ≡ v
 value_ends p x v ok point is = value_is p point ∙ ap (value p) is ∙ sym (ended (checked.value_of p x) v (value p x) ok (value_settles p x))
-  where
-    ended : (r : Result ℚ Event) (v w : ℚ) → Ok v ≡ r → Settles r w (Unit {0}) → v ≡ w
-    ended (Ok u) v w e s = inner v u e ∙ s.ends.0
-      where
-        inner : (v u : ℚ) → Ok {E = Event} v ≡ Ok u → v ≡ u
-        inner v u e = cc
-    ended (Err d) v w e s = absurd (cc)

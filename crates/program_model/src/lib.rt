@@ -9,7 +9,6 @@ mod points;
 mod program;
 mod reading;
 mod regions;
-pub mod scratch;
 
 pub use faults::{AddFault, NameFault};
 pub use names::{Name, is_name};

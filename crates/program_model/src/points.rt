@@ -84,6 +84,7 @@ pub fn check_point(p: &Program, region: &Region, x: &Vector<Frac>) -> Result<Poi
     ensures event { event_of result ≡ point_test p.now region.now x.now }
     ensures inside { IsInsideIfTold p.now region.now x.now result }
 {
+    let _columns = p.columns();
     match point_tested(p, region, x) {
         Ok(()) => Ok(PointTest::Inside),
         Err(event) => told(event),

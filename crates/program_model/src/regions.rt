@@ -151,9 +151,12 @@ fn all_bounds(alloc: Global, p: &Program) -> Result<Vec<Row>, Memory>
     ensures few { length (bounds p.now) ≤ 128 }
 {
     let mut bounds = Vec::new(alloc);
-    for j in 0..column_count(p) {
-        let row = bounds_of(p, j);
-        bounds.push(row)?;
+    for j in 0..p.columns() {
+        let column = p.column(j);
+        bounds.push(Row {
+            low: column.low,
+            high: column.high,
+        })?;
     }
     Ok(bounds)
 }
