@@ -1,7 +1,7 @@
 // Names.
 
 ghost use Rattle.std.specs.Prelude.{◌≡◌, ◌↔◌, IsTrue};
-ghost use Rattle.program_law.specs.Program.{IsName};
+ghost use Rattle.program_law.specs.Program.{IsName, marker};
 ghost use Rattle.program_model.specs.Answers.{IsNamed};
 
 use crate::faults::NameFault;
@@ -30,6 +30,13 @@ pub fn is_name(bytes: &[u8]) -> bool
     ensures { IsTrue result ↔ IsName bytes.now }
 {
     !bytes.is_empty() && bytes.len() <= 64 && bytes.iter().all(|byte| byte.is_ascii_graphic())
+}
+
+/// Whether bytes are `'MARKER'`, with the quotes. No objective and no row has this name.
+pub fn is_marker(bytes: &[u8]) -> bool
+    ensures { IsTrue result ↔ (bytes.now ≡ marker) }
+{
+    bytes == b"'MARKER'".as_slice()
 }
 
 impl Name {

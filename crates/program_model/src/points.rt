@@ -12,7 +12,9 @@ use crate::program::Program;
 use crate::reading::{column_count, entries_of, is_marked, pairs_of, row_count, sides_of};
 use crate::regions::Region;
 use check_law::Event;
-use check_steps::{column_tested, dot_with, entry, product_added, quotient, row_product, row_tested, sum};
+use check_steps::{
+    column_tested, dot_with, entry, product_added, quotient, row_product, row_tested, sum,
+};
 use frac_core::{Frac, Refused, Tried, Vector};
 
 /// What the tests of a point find: it is inside, or the first row whose sum is outside its sides, or else the first column
@@ -44,7 +46,12 @@ fn columns_tested(p: &Program, region: &Region, x: &Vector<Frac>) -> Result<(), 
 {
     let bounds = region.bounds();
     for j in 0..column_count(p) {
-        column_tested(j + 1, bounds[j as usize], is_marked(p, j), entry(x, j as usize))?;
+        column_tested(
+            j + 1,
+            bounds[j as usize],
+            is_marked(p, j),
+            entry(x, j as usize),
+        )?;
     }
     Ok(())
 }
