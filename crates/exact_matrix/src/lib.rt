@@ -1,0 +1,6 @@
+// Matrices of exact numbers: systems of equations, and inverses, by elimination.
+#![tactic(auto)]
+
+mod matrix;
+
+pub use matrix::Matrix;
