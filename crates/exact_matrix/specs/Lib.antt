@@ -1,0 +1,4 @@
+pub mod Elimination
+pub mod EliminationAnswers
+pub mod EliminationOperations
+pub mod EliminationCalculation
