@@ -1,1 +1,5 @@
 pub mod Grid
+pub mod Elimination
+pub mod EliminationAnswers
+pub mod EliminationOperations
+pub mod EliminationCalculation
