@@ -1,11 +1,12 @@
 -- A list as rows that stand one after another.
-use Rattle.std.proofs.Common.{◌≡◌, ℕ, zero, suc, ◌+◌, ◌*◌, ◌<◌, ◌≤◌, List, [], ◌∷◌, ◌++◌, Some, length, take, drop, get_or, slice_get, replicate, sym, ap, ◌∙◌, refl, arith, append_assoc}
+use Rattle.std.proofs.Common.{◌≡◌, ℕ, zero, suc, ◌+◌, ◌-◌, ◌*◌, ◌<◌, ◌≤◌, List, [], ◌∷◌, ◌++◌, Option, Some, None, length, take, drop, get_or, slice_get, replicate, sym, ap, ◌∙◌, refl, arith, append_assoc}
 use Rattle.std.proofs.Math.Seq.{take-add}
 use Rattle.std.proofs.Math.ListN.{set}
 use Rattle.std.proofs.Math.Nat.{mul-le-mul_right}
 use borrow.Rule.Slice.PartMut.{put_mid}
-use Rattle.std.proofs.lemmas.List.{drop-drop, drop-set-lt, drop-set-add, take-set-le, length-take-le, length-drop, take_at, drop_at, take-append-le, drop-append-le, length-append, get_or-take, get_or-drop, take-replicate, drop-replicate}
+use Rattle.std.proofs.lemmas.List.{drop-drop, drop-set-lt, drop-set-add, take-set-le, length-take-le, length-drop, take_at, drop_at, take-append-le, drop-append-le, length-append, get_or-take, get_or-drop, length-replicate, take-replicate, drop-replicate}
 use Rattle.std.proofs.lemmas.Option.{slice_get_read}
+use Rattle.std.specs.Option.{SomeIff}
 use Rattle.exact_matrix.specs.Grid.{Grid, rows_of, row_at, with_row}
 
 pub row_end : (i rows c : ℕ) → i < rows → i * c + c ≤ rows * c
@@ -110,3 +111,21 @@ pub row_put : {F : Type 0} (c n : ℕ) (xs ys : List F) (m : Grid F) (i : ℕ) �
 row_put c n xs ys m i e l h k =
     ap (λ rows. record { columns = c; rows = rows }) (rows_of-put c n xs ys i (omega (arith, flat_rows c n xs m e)) (omega arith) k)
     ∙ ap (λ m. with_row m i ys) e
+
+count_is : (rows columns count i : ℕ) (o : Option ℕ) (P : Type 0) → SomeIff o P (rows * columns) → o ≡ Some count → count ≤ i → i ≤ count → i ≡ rows * columns
+count_is rows columns count i None P h e l u = absurd cc
+count_is rows columns count i (Some k) P h e l u = let e2 : k ≡ count = cc in omega (arith, e2, h.1)
+
+pub filled_is : {F : Type 0} (rows columns count i : ℕ) (xs : List F) (v : F) (o : Option ℕ) (P : Type 0) → SomeIff o P (rows * columns) → o ≡ Some count → count ≤ i → i ≤ count → xs ≡ replicate i v →
+    ◌≡◌ {A = Grid F} (record { columns = columns; rows = rows_of columns rows xs }) (record { columns = columns; rows = replicate rows (replicate columns v) })
+filled_is rows columns count i xs v o P h e l u is =
+    ap (λ rows. record { columns = columns; rows = rows })
+    (ap (rows_of columns rows) (is ∙ ap (λ i. replicate i v) (count_is rows columns count i o P h e l u)) ∙ rows_of-replicate columns rows v)
+
+pub filled_length : {F : Type 0} (rows columns count i : ℕ) (xs : List F) (v : F) (o : Option ℕ) (P : Type 0) → SomeIff o P (rows * columns) → o ≡ Some count → count ≤ i → i ≤ count → xs ≡ replicate i v →
+    length xs ≡ rows * columns
+filled_length rows columns count i xs v o P h e l u is = ap length is ∙ length-replicate i v ∙ count_is rows columns count i o P h e l u
+
+pub row_read : {F : Type 0} (c n : ℕ) (xs ys : List F) (m : Grid F) (i : ℕ) →
+    record { columns = c; rows = rows_of c n xs } ≡ m → i < length m.rows → ys ≡ xs → take ((i * c + c) - i * c) (drop (i * c) ys) ≡ row_at m i
+row_read c n xs ys m i e h s = ap (λ k. take k (drop (i * c) ys)) (omega arith) ∙ ap (λ t. take c (drop (i * c) t)) s ∙ sym (row_is c n xs m i e h)

@@ -1,11 +1,13 @@
 // A matrix in one piece of memory, row after row.
 
-ghost use Rattle.exact_matrix.specs.Grid.{IsGrid, row_at, with_row};
-ghost use Rattle.std.specs.Prelude.{◌≡◌, ◌<◌, length, replicate, slice_get, slice_set, Some, IfOk};
+ghost use Rattle.exact_matrix.specs.Grid.{IsGrid, row_at, with_row, rows_of};
+ghost use Rattle.std.specs.Prelude.{◌≡◌, ◌<◌, ◌*◌, length, replicate, slice_get, slice_set, Some, IfOk};
 
-use frac_core::Memory;
+use frac_core::{ExactField, Memory, Refused};
 use std::alloc::Global;
 use std::marker::Model;
+
+use crate::rows;
 
 /// A matrix, as the list of its rows, which have one length, and the number of its columns.
 #[derive(Drop)]
@@ -90,5 +92,33 @@ impl<F: Copy + Drop> Matrix<F> {
     {
         let place = i * self.columns + j;
         self.entries[place] = value;
+    }
+}
+
+impl<F: ExactField> Matrix<F> {
+    // The matrix of `rows` rows of `columns` entries that stand one after another.
+    pub(crate) fn of_rows(entries: Vec<F>, rows: usize, columns: usize) -> Matrix<F>
+        requires { length entries.items ≡ rows * columns }
+        ensures { result ≡ record { columns = columns; rows = rows_of columns rows entries.items } }
+    {
+        Matrix {
+            entries,
+            rows,
+            columns,
+        }
+    }
+
+    // Divides the row at `i` by `q`, and stops with the first refusal.
+    pub(crate) fn divide(&mut self, i: usize, q: F) -> Result<(), Refused> {
+        let start = i * self.columns;
+        let end = start + self.columns;
+        rows::divide(&mut self.entries[start..end], q)
+    }
+
+    // Takes `f` times `other` from the row at `i`, and stops with the first refusal.
+    pub(crate) fn take_times(&mut self, i: usize, f: F, other: &[F]) -> Result<(), Refused> {
+        let start = i * self.columns;
+        let end = start + self.columns;
+        rows::take_times(&mut self.entries[start..end], f, other)
     }
 }

@@ -1,6 +1,5 @@
-use Rattle.std.proofs.Common.{length, sym, ap, ◌∙◌, subst}
-use Rattle.std.proofs.lemmas.List.{ext_get_or}
-use Rattle.exact_matrix.specs.Grid.{Grid, IsGrid}
+use Rattle.std.proofs.Common.{subst}
+use Rattle.exact_matrix.specs.Grid.{IsGrid}
 use Rattle.exact_matrix.proofs.Grids.{rows_of-shape, rows_of-length}
 use Rattle.exact_matrix.proofs.matrix.Matrix.columns.Goals as goal
 

@@ -1,7 +1,10 @@
-use Rattle.std.proofs.Common.{◌≡◌, ◌*◌, replicate, ap, ◌∙◌}
-use Rattle.exact_matrix.proofs.Grids.{rows_of-replicate}
+use Rattle.exact_matrix.proofs.Grids.{filled_is, filled_length}
 use Rattle.exact_matrix.proofs.matrix.Matrix.filled.Goals as goal
 
 pub returns : goal.returns
 returns g c =
-    let a = c.checked_mul.ensures in let b = c.ok_or.ensures in let d = c.in_ok-count.was in let d1 = c.in_ok-count.is in let d2 = c.in_ok-count.ensures in let e = c.loop-test.false in ?
+    filled_is c.args.rows c.args.columns c.in_ok-count.count c.loop.counter c.loop.entries.items c.args.value c.checked_mul.result _ c.checked_mul.ensures c.in_ok-count.ensures.ok_part c.loop-test.false c.loop.auto.counter-end c.loop.invariant
+
+pub invariant_of-result : goal.invariant_of-result
+invariant_of-result g c =
+    filled_length c.args.rows c.args.columns c.in_ok-count.count c.loop.counter c.loop.entries.items c.args.value c.checked_mul.result _ c.checked_mul.ensures c.in_ok-count.ensures.ok_part c.loop-test.false c.loop.auto.counter-end c.loop.invariant

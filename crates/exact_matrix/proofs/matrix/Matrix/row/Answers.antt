@@ -1,5 +1,5 @@
-use Rattle.std.proofs.Common.{◌≤◌, ◌+◌, ◌*◌, length, arith, sym, ap, ◌∙◌}
-use Rattle.exact_matrix.proofs.Grids.{row_within, row_is}
+use Rattle.std.proofs.Common.{◌≤◌, ◌+◌, ◌*◌, length, arith}
+use Rattle.exact_matrix.proofs.Grids.{row_within, row_read}
 use Rattle.exact_matrix.proofs.matrix.Matrix.row.Given.{Over}
 use Rattle.exact_matrix.proofs.matrix.Matrix.row.Goals as goal
 use Rattle.exact_matrix.proofs.matrix.Matrix.row.Goals.{After-self}
@@ -20,4 +20,5 @@ pub slice_bounds-result-end : goal.slice_bounds-result-end
 slice_bounds-result-end g c = omega (arith, within g (goal.at.slice_bounds-result-end g c).After-self, c.deref.ensures.len, c.self.inside.entries.ok)
 
 pub returns : goal.returns
-returns g c = ?
+returns g c =
+    row_read c.self.inside.columns c.self.inside.rows c.self.inside.entries.items c.deref.result.now c.args.self.now c.args.i c.self.view_is c.requires c.deref.ensures.value
