@@ -3,3 +3,4 @@ pub mod Elimination
 pub mod EliminationAnswers
 pub mod EliminationOperations
 pub mod EliminationCalculation
+pub mod State

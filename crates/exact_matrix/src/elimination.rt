@@ -1,15 +1,23 @@
 // The elimination of the first columns of a matrix.
 
-use frac_core::{ExactField, Refused, Vector, is_zero};
+ghost use Rattle.exact_matrix.specs.EliminationCalculation.{freed_in, each_freed_in, step_in, eliminated_in};
+ghost use Rattle.exact_matrix.specs.Grid.{row_at, with_row};
+ghost use Rattle.exact_matrix.specs.State.{state, IsLine, IsLines, IsPivotAt, IsPivotPlace, IsSameShape};
+ghost use Rattle.std.specs.Prelude.{◌≡◌, ◌<◌, ◌≤◌, length, map, unsigned_abs};
 
 use crate::matrix::Matrix;
+use frac_core::{ExactField, Refused, Vector, is_zero};
 
 // The first row that is not used and not 0 in the column at `j`.
 pub(crate) fn pivot_place<F: ExactField>(
     rows: &Matrix<F>,
     pivots: &Vector<Option<usize>>,
     j: usize,
-) -> Option<usize> {
+) -> Option<usize>
+    requires rows { length pivots.now ≡ length rows.now.rows }
+    requires column { j < rows.now.columns }
+    ensures { IsPivotPlace F.value j pivots.now rows.now result }
+{
     for i in 0..rows.rows() {
         if pivots.at(i).is_none() && !is_zero(rows.at(i, j)) {
             return Some(i);
@@ -25,7 +33,13 @@ fn free_row<F: ExactField>(
     pivot: Option<usize>,
     j: usize,
     p: &[F],
-) -> Result<(), Refused> {
+) -> Result<(), Refused>
+    requires row { i < length rows.old.rows }
+    requires column { j < rows.old.columns }
+    requires other { length p.now ≡ rows.old.columns }
+    ensures line { IsLine result (record { pivot = pivot; entries = map F.value (row_at rows.new i) }) (freed_in (unsigned_abs F.TOP) j (map F.value p.now) (record { pivot = pivot; entries = map F.value (row_at rows.old i) })) }
+    ensures rest { rows.new ≡ with_row rows.old i (row_at rows.new i) }
+{
     if pivot == Some(j) {
         return Ok(());
     }
@@ -42,7 +56,13 @@ fn free_rows<F: ExactField>(
     pivots: &Vector<Option<usize>>,
     j: usize,
     p: &[F],
-) -> Result<(), Refused> {
+) -> Result<(), Refused>
+    requires rows { length pivots.now ≡ length rows.old.rows }
+    requires column { j < rows.old.columns }
+    requires other { length p.now ≡ rows.old.columns }
+    ensures lines { IsLines result (state F.value pivots.now rows.new) (each_freed_in (unsigned_abs F.TOP) j (map F.value p.now) (state F.value pivots.now rows.old)) }
+    ensures shape { IsSameShape rows.old rows.new }
+{
     for i in 0..rows.rows() {
         free_row(rows, i, pivots.at(i), j, p)?;
     }
@@ -56,7 +76,15 @@ fn clear_column<F: ExactField>(
     i: usize,
     j: usize,
     p: &mut [F],
-) -> Result<(), Refused> {
+) -> Result<(), Refused>
+    requires rows { length pivots.old ≡ length rows.old.rows }
+    requires column { j < rows.old.columns }
+    requires room { length p.old ≡ rows.old.columns }
+    requires pivot { IsPivotAt F.value j pivots.old rows.old i }
+    ensures lines { IsLines result (state F.value pivots.new rows.new) (step_in (unsigned_abs F.TOP) j (state F.value pivots.old rows.old)) }
+    ensures shape { IsSameShape rows.old rows.new }
+    ensures pivots { length pivots.new ≡ length pivots.old }
+{
     let pivot = rows.at(i, j);
     rows.divide(i, pivot)?;
     pivots.set(i, Some(j));
@@ -70,7 +98,14 @@ fn step<F: ExactField>(
     pivots: &mut Vector<Option<usize>>,
     j: usize,
     p: &mut [F],
-) -> Result<(), Refused> {
+) -> Result<(), Refused>
+    requires rows { length pivots.old ≡ length rows.old.rows }
+    requires column { j < rows.old.columns }
+    requires room { length p.old ≡ rows.old.columns }
+    ensures lines { IsLines result (state F.value pivots.new rows.new) (step_in (unsigned_abs F.TOP) j (state F.value pivots.old rows.old)) }
+    ensures shape { IsSameShape rows.old rows.new }
+    ensures pivots { length pivots.new ≡ length pivots.old }
+{
     match pivot_place(rows, pivots, j) {
         Some(i) => clear_column(rows, pivots, i, j, p),
         None => Ok(()),
@@ -83,7 +118,14 @@ pub(crate) fn eliminate<F: ExactField>(
     pivots: &mut Vector<Option<usize>>,
     n: usize,
     p: &mut [F],
-) -> Result<(), Refused> {
+) -> Result<(), Refused>
+    requires rows { length pivots.old ≡ length rows.old.rows }
+    requires columns { n ≤ rows.old.columns }
+    requires room { length p.old ≡ rows.old.columns }
+    ensures lines { IsLines result (state F.value pivots.new rows.new) (eliminated_in (unsigned_abs F.TOP) n (state F.value pivots.old rows.old)) }
+    ensures shape { IsSameShape rows.old rows.new }
+    ensures pivots { length pivots.new ≡ length pivots.old }
+{
     for j in 0..n {
         step(rows, pivots, j, p)?;
     }

@@ -1,13 +1,14 @@
 // A matrix in one piece of memory, row after row.
 
 ghost use Rattle.exact_matrix.specs.Grid.{IsGrid, row_at, with_row, rows_of};
-ghost use Rattle.std.specs.Prelude.{◌≡◌, ◌<◌, ◌*◌, length, replicate, slice_get, slice_set, Some, IfOk};
+ghost use Rattle.exact_matrix.specs.EliminationCalculation.{divided_in};
+ghost use Rattle.frac_core.specs.Row.{IsRow, row_less};
+ghost use Rattle.std.specs.Prelude.{◌≡◌, ◌<◌, ◌*◌, length, replicate, slice_get, slice_set, map, pos, unsigned_abs, ◌≢◌, Some, IfOk};
 
+use crate::rows;
 use frac_core::{ExactField, Memory, Refused};
 use std::alloc::Global;
 use std::marker::Model;
-
-use crate::rows;
 
 /// A matrix, as the list of its rows, which have one length, and the number of its columns.
 #[derive(Drop)]
@@ -31,12 +32,7 @@ impl<F> Model for Matrix<F> {
 impl<F: Copy + Drop> Matrix<F> {
     /// `rows` rows of `columns` entries, each of them `value`. A matrix of more entries than an index
     /// can count is out of memory.
-    pub fn filled(
-        alloc: Global,
-        rows: usize,
-        columns: usize,
-        value: F,
-    ) -> Result<Matrix<F>, Memory>
+    pub fn filled(alloc: Global, rows: usize, columns: usize, value: F) -> Result<Matrix<F>, Memory>
         ensures { IfOk result (λ m. m ≡ record { columns = columns; rows = replicate rows (replicate columns value) }) }
     {
         let count = rows.checked_mul(columns).ok_or(Memory)?;
@@ -69,7 +65,8 @@ impl<F: Copy + Drop> Matrix<F> {
     /// The row at `i`.
     pub fn row(&self, i: usize) -> &[F]
         requires { i < length self.now.rows }
-        ensures { result.now ≡ row_at self.now i }
+        ensures value { result.now ≡ row_at self.now i }
+        ensures length { length result.now ≡ self.now.columns }
     {
         let start = i * self.columns;
         &self.entries[start..start + self.columns]
@@ -109,14 +106,24 @@ impl<F: ExactField> Matrix<F> {
     }
 
     // Divides the row at `i` by `q`, and stops with the first refusal.
-    pub(crate) fn divide(&mut self, i: usize, q: F) -> Result<(), Refused> {
+    pub(crate) fn divide(&mut self, i: usize, q: F) -> Result<(), Refused>
+        requires row { i < length self.old.rows }
+        requires divisor { (F.value q).num ≢ pos 0 }
+        ensures row { IsRow F.value result (row_at self.new i) (divided_in (unsigned_abs F.TOP) (F.value q) (map F.value (row_at self.old i))) }
+        ensures rest { self.new ≡ with_row self.old i (row_at self.new i) }
+    {
         let start = i * self.columns;
         let end = start + self.columns;
         rows::divide(&mut self.entries[start..end], q)
     }
 
     // Takes `f` times `other` from the row at `i`, and stops with the first refusal.
-    pub(crate) fn take_times(&mut self, i: usize, f: F, other: &[F]) -> Result<(), Refused> {
+    pub(crate) fn take_times(&mut self, i: usize, f: F, other: &[F]) -> Result<(), Refused>
+        requires row { i < length self.old.rows }
+        requires other { length other.now ≡ self.old.columns }
+        ensures row { IsRow F.value result (row_at self.new i) (row_less (unsigned_abs F.TOP) (F.value f) (map F.value (row_at self.old i)) (map F.value other.now)) }
+        ensures rest { self.new ≡ with_row self.old i (row_at self.new i) }
+    {
         let start = i * self.columns;
         let end = start + self.columns;
         rows::take_times(&mut self.entries[start..end], f, other)

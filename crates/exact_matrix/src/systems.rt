@@ -1,10 +1,9 @@
 // Systems of equations and inverses, by elimination.
 
-use frac_core::{ExactField, Memory, Refused, Vector};
-use std::alloc::Global;
-
 use crate::elimination::{eliminate, pivot_place};
 use crate::matrix::Matrix;
+use frac_core::{ExactField, Memory, Refused, Vector};
+use std::alloc::Global;
 
 /// Why there is no answer: memory ran out, or an operation's exact result has too large a part.
 #[derive(Clone, Copy)]
@@ -50,7 +49,12 @@ fn solve_rows<F: ExactField>(
     r: &Vector<F>,
 ) -> Result<Matrix<F>, Memory> {
     let rows = m.rows();
-    let width = m.columns().checked_add(1).ok_or(Memory)?.checked_add(rows).ok_or(Memory)?;
+    let width = m
+        .columns()
+        .checked_add(1)
+        .ok_or(Memory)?
+        .checked_add(rows)
+        .ok_or(Memory)?;
     let mut entries = Vec::new(alloc);
     for i in 0..rows {
         entries.extend_from_slice(m.row(i))?;
