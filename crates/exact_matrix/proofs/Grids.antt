@@ -1,12 +1,13 @@
 -- A list as rows that stand one after another.
-use Rattle.std.proofs.Common.{◌≡◌, ℕ, zero, suc, ◌+◌, ◌-◌, ◌*◌, ◌<◌, ◌≤◌, List, [], ◌∷◌, ◌++◌, Option, Some, None, length, take, drop, get_or, slice_get, replicate, sym, ap, ◌∙◌, refl, arith, append_assoc}
+use Rattle.std.proofs.Common.{◌≡◌, ℕ, Vec, zero, suc, ◌+◌, ◌-◌, ◌*◌, ◌<◌, ◌≤◌, List, [], ◌∷◌, ◌++◌, Option, Some, None, length, take, drop, get_or, slice_get, replicate, sym, ap, ◌∙◌, refl, arith, append_assoc}
 use Rattle.std.proofs.Math.Seq.{take-add}
 use Rattle.std.proofs.Math.ListN.{set}
 use Rattle.std.proofs.Math.Nat.{mul-le-mul_right}
 use borrow.Rule.Slice.PartMut.{put_mid}
-use Rattle.std.proofs.lemmas.List.{drop-drop, drop-set-lt, drop-set-add, take-set-le, length-take-le, length-drop, take_at, drop_at, take-append-le, drop-append-le, length-append, get_or-take, get_or-drop, length-replicate, take-replicate, drop-replicate}
+use Rattle.std.proofs.lemmas.List.{drop-drop, drop-set-lt, drop-set-add, take-set-le, length-take-le, length-drop, take_at, drop_at, take-append-le, drop-append-le, length-append, get_or-take, get_or-drop, get_or-set_same, length-replicate, take-replicate, drop-replicate, with_items_is}
 use Rattle.std.proofs.lemmas.Option.{slice_get_read}
 use Rattle.std.specs.Option.{SomeIff}
+use Rattle.std.specs.Vec.{with_items}
 use Rattle.exact_matrix.specs.Grid.{Grid, rows_of, row_at, with_row}
 
 pub row_end : (i rows c : ℕ) → i < rows → i * c + c ≤ rows * c
@@ -129,3 +130,63 @@ filled_length rows columns count i xs v o P h e l u is = ap length is ∙ length
 pub row_read : {F : Type 0} (c n : ℕ) (xs ys : List F) (m : Grid F) (i : ℕ) →
     record { columns = c; rows = rows_of c n xs } ≡ m → i < length m.rows → ys ≡ xs → take ((i * c + c) - i * c) (drop (i * c) ys) ≡ row_at m i
 row_read c n xs ys m i e h s = ap (λ k. take k (drop (i * c) ys)) (omega arith) ∙ ap (λ t. take c (drop (i * c) t)) s ∙ sym (row_is c n xs m i e h)
+
+pub row_of_put : {F : Type 0} (m : Grid F) (i : ℕ) (ys : List F) → i < length m.rows → row_at (with_row m i ys) i ≡ ys
+row_of_put m i ys h = get_or-set_same m.rows i ys [] h
+
+put_mid_length : {F : Type 0} (a k : ℕ) (xs ys : List F) → a + k ≤ length xs → length ys ≡ k → length (put_mid a k xs ys) ≡ length xs
+put_mid_length a k xs ys h e = simp (length-append, length-drop) (let t = length-take-le a xs (omega arith) in omega (arith, t))
+
+-- the list with a part written, where the part is a row
+pub written_length : {F : Type 0} (c n : ℕ) (xs xs' ys : List F) (m : Grid F) (i : ℕ) →
+    record { columns = c; rows = rows_of c n xs } ≡ m → length xs ≡ n * c → i < length m.rows → xs' ≡ xs →
+    length ys ≡ length (take ((i * c + c) - i * c) (drop (i * c) xs')) → length (put_mid (i * c) ((i * c + c) - i * c) xs' ys) ≡ length xs
+written_length c n xs xs' ys m i e l h s k =
+    let w : i * c + c ≤ length xs = row_within c n xs m i e l h in
+    let o : (i * c + c) - i * c ≡ c = omega arith in
+    rw (o, s) (put_mid_length (i * c) c xs ys w (k ∙ rw (o, s) (length-take-le c (drop (i * c) xs) (rw length-drop (omega arith)))))
+
+pub row_written : {F : Type 0} (c n : ℕ) (xs xs' ys zs : List F) (m : Grid F) (i : ℕ) →
+    record { columns = c; rows = rows_of c n xs } ≡ m → length xs ≡ n * c → i < length m.rows → xs' ≡ xs →
+    length ys ≡ length (take ((i * c + c) - i * c) (drop (i * c) xs')) → zs ≡ put_mid (i * c) ((i * c + c) - i * c) xs' ys →
+    record { columns = c; rows = rows_of c n zs } ≡ with_row m i ys
+row_written c n xs xs' ys zs m i e l h s k z =
+    let w : i * c + c ≤ length xs = row_within c n xs m i e l h in
+    let o : (i * c + c) - i * c ≡ c = omega arith in
+    rw (z, o, s) (row_put c n xs ys m i e l h (k ∙ rw (o, s) (length-take-le c (drop (i * c) xs) (rw length-drop (omega arith)))))
+
+-- the row that is written, and the rest
+pub row_now : {F : Type 0} (m g : Grid F) (i : ℕ) (ys : List F) → i < length m.rows → g ≡ with_row m i ys → row_at g i ≡ ys
+row_now m g i ys h e = ap (λ g. row_at g i) e ∙ row_of_put m i ys h
+
+pub rest_now : {F : Type 0} (m g : Grid F) (i : ℕ) (ys : List F) → i < length m.rows → g ≡ with_row m i ys → g ≡ with_row m i (row_at g i)
+rest_now m g i ys h e = e ∙ ap (with_row m i) (sym (row_now m g i ys h e))
+
+-- the same of the vector that the list stands in
+vec_items : {F Z : Type 0} (v : Vec F Z) (c n : ℕ) (xs' ys : List F) (m : Grid F) (i : ℕ) →
+    record { columns = c; rows = rows_of c n v.items } ≡ m → length v.items ≡ n * c → i < length m.rows → xs' ≡ v.items → v.len ≡ length v.items →
+    length ys ≡ length (take ((i * c + c) - i * c) (drop (i * c) xs')) →
+    (with_items v (put_mid (i * c) ((i * c + c) - i * c) xs' ys)).items ≡ put_mid (i * c) ((i * c + c) - i * c) xs' ys
+vec_items v c n xs' ys m i e l h s len k =
+    with_items_is v (put_mid (i * c) ((i * c + c) - i * c) xs' ys) (written_length c n v.items xs' ys m i e l h s k ∙ sym len)
+
+pub vec_length : {F Z : Type 0} (v : Vec F Z) (c n : ℕ) (xs' ys : List F) (m : Grid F) (i : ℕ) →
+    record { columns = c; rows = rows_of c n v.items } ≡ m → length v.items ≡ n * c → i < length m.rows → xs' ≡ v.items → v.len ≡ length v.items →
+    length ys ≡ length (take ((i * c + c) - i * c) (drop (i * c) xs')) →
+    length (with_items v (put_mid (i * c) ((i * c + c) - i * c) xs' ys)).items ≡ n * c
+vec_length v c n xs' ys m i e l h s len k =
+    ap length (vec_items v c n xs' ys m i e l h s len k) ∙ written_length c n v.items xs' ys m i e l h s k ∙ l
+
+pub vec_written : {F Z : Type 0} (v : Vec F Z) (c n : ℕ) (xs' ys : List F) (m : Grid F) (i : ℕ) →
+    record { columns = c; rows = rows_of c n v.items } ≡ m → length v.items ≡ n * c → i < length m.rows → xs' ≡ v.items → v.len ≡ length v.items →
+    length ys ≡ length (take ((i * c + c) - i * c) (drop (i * c) xs')) →
+    record { columns = c; rows = rows_of c n (with_items v (put_mid (i * c) ((i * c + c) - i * c) xs' ys)).items } ≡ with_row m i ys
+vec_written v c n xs' ys m i e l h s len k =
+    row_written c n v.items xs' ys _ m i e l h s k (vec_items v c n xs' ys m i e l h s len k)
+
+pub row_read_length : {F : Type 0} (c n : ℕ) (xs ys : List F) (m : Grid F) (i : ℕ) →
+    record { columns = c; rows = rows_of c n xs } ≡ m → length xs ≡ n * c → i < length m.rows → ys ≡ xs → length (take ((i * c + c) - i * c) (drop (i * c) ys)) ≡ m.columns
+row_read_length c n xs ys m i e l h s =
+    let w : i * c + c ≤ length xs = row_within c n xs m i e l h in
+    let o : (i * c + c) - i * c ≡ c = omega arith in
+    rw (o, s) (length-take-le c (drop (i * c) xs) (rw length-drop (omega arith)) ∙ ap (λ m. m.columns) e)

@@ -1,3 +1,4 @@
 pub mod Grids
 pub mod WorkedElimination
 pub mod Passes
+pub mod States

@@ -1,5 +1,5 @@
 use Rattle.std.proofs.Common.{◌≤◌, ◌+◌, ◌*◌, length, arith}
-use Rattle.exact_matrix.proofs.Grids.{row_within, row_read}
+use Rattle.exact_matrix.proofs.Grids.{row_within, row_read, row_read_length}
 use Rattle.exact_matrix.proofs.matrix.Matrix.row.Given.{Over}
 use Rattle.exact_matrix.proofs.matrix.Matrix.row.Goals as goal
 use Rattle.exact_matrix.proofs.matrix.Matrix.row.Goals.{After-self}
@@ -19,6 +19,10 @@ offset_bounds-deref-start g c = omega (arith, within g (goal.at.offset_bounds-de
 pub slice_bounds-result-end : goal.slice_bounds-result-end
 slice_bounds-result-end g c = omega (arith, within g (goal.at.slice_bounds-result-end g c).After-self, c.deref.ensures.len, c.self.inside.entries.ok)
 
-pub returns : goal.returns
-returns g c =
+pub returns-clause-value : goal.returns-clause-value
+returns-clause-value g c =
     row_read c.self.inside.columns c.self.inside.rows c.self.inside.entries.items c.deref.result.now c.args.self.now c.args.i c.self.view_is c.requires c.deref.ensures.value
+
+pub returns-clause-length : goal.returns-clause-length
+returns-clause-length g c =
+    row_read_length c.self.inside.columns c.self.inside.rows c.self.inside.entries.items c.deref.result.now c.args.self.now c.args.i c.self.view_is c.self.invariant c.requires c.deref.ensures.value

@@ -1,0 +1,130 @@
+-- The lines that the program holds, when a row or a pivot is written; and where the pivot row of a column is.
+use Rattle.std.proofs.Common.{◌≡◌, ◌≢◌, ℕ, Bool, true, false, zero, suc, ◌+◌, ◌≤◌, ◌<◌, Option, Some, None, List, [], ◌∷◌, ◌++◌, length, map, take, drop, get_or, slice_get, sym, ap, ◌∙◌, refl, arith, add-one, append_assoc}
+use Rattle.std.specs.Prelude.{pos, Result, Ok, Err, not, ◌&&◌}
+use Rattle.std.specs.Option.{option_map}
+use Rattle.std.proofs.Math.ListN.{set, drop_of_length-le}
+use Rattle.std.proofs.lemmas.List.{map-set, get_or-map, length-map, length-set, set_split, append-nil, take_all, take_more_set}
+use Rattle.std.proofs.lemmas.Option.{slice_get-map, get_or_from_slice_get, slice_get_within}
+use Rattle.rational.specs.Rational.{ℚ, zero_ℚ}
+use Rattle.rational.specs.Order.{same_fields}
+use Rattle.rational.specs.Sums.{entry}
+use Rattle.rational.proofs.Wholes.{num-ne_of_test}
+use Rattle.frac_core.specs.declared.fractions.Refused.{Refused}
+use Rattle.exact_matrix.specs.Grid.{Grid, row_at, with_row}
+use Rattle.exact_matrix.specs.Elimination.{Line, used, is_unused, may_pivot, pivot_row, with_pivot}
+use Rattle.exact_matrix.specs.EliminationCalculation.{freed_in, each_freed_in, line_then}
+use Rattle.exact_matrix.specs.State.{lines, state, IsPivotAt, IsPivotPlace}
+use Rattle.exact_matrix.proofs.Passes.{drop_after_set}
+
+abbrev line : Option ℕ → List ℚ → Line
+line p row = record { pivot = p; entries = row }
+
+pub lines_length : (ps : List (Option ℕ)) (rows : List (List ℚ)) → length ps ≡ length rows → length (lines ps rows) ≡ length rows
+lines_length [] rows e = e
+lines_length (p ∷ ps) [] e = refl
+lines_length (p ∷ ps) (row ∷ rows) e = ap suc (lines_length ps rows (omega arith))
+
+lines_get : (ps : List (Option ℕ)) (rows : List (List ℚ)) (i : ℕ) (p : Option ℕ) (row : List ℚ) → slice_get ps i ≡ Some p → slice_get rows i ≡ Some row →
+    slice_get (lines ps rows) i ≡ Some (line p row)
+lines_get [] rows i p row h k = absurd cc
+lines_get (q ∷ ps) [] i p row h k = absurd cc
+lines_get (q ∷ ps) (r ∷ rows) zero p row h k = let e : q ≡ p = cc in let f : r ≡ row = cc in rw (e, f)
+lines_get (q ∷ ps) (r ∷ rows) (suc i) p row h k = lines_get ps rows i p row h k
+
+lines_set : (ps : List (Option ℕ)) (rows : List (List ℚ)) (i : ℕ) (p : Option ℕ) (row : List ℚ) → slice_get ps i ≡ Some p →
+    lines ps (set rows i row) ≡ set (lines ps rows) i (line p row)
+lines_set [] rows i p row h = refl
+lines_set (q ∷ ps) [] i p row h = refl
+lines_set (q ∷ ps) (r ∷ rows) zero p row h = let e : q ≡ p = cc in rw e
+lines_set (q ∷ ps) (r ∷ rows) (suc i) p row h = ap (λ t. line q r ∷ t) (lines_set ps rows i p row h)
+
+lines_set_both : (ps : List (Option ℕ)) (rows : List (List ℚ)) (i : ℕ) (p : Option ℕ) (row : List ℚ) →
+    lines (set ps i p) (set rows i row) ≡ set (lines ps rows) i (line p row)
+lines_set_both [] rows i p row = refl
+lines_set_both (q ∷ ps) [] zero p row = refl
+lines_set_both (q ∷ ps) [] (suc i) p row = refl
+lines_set_both (q ∷ ps) (r ∷ rows) zero p row = refl
+lines_set_both (q ∷ ps) (r ∷ rows) (suc i) p row = ap (λ t. line q r ∷ t) (lines_set_both ps rows i p row)
+
+pub state_length : {F : Type 0} (v : F → ℚ) (ps : List (Option ℕ)) (m : Grid F) → length ps ≡ length m.rows → length (state v ps m) ≡ length m.rows
+state_length v ps m e = lines_length ps (map (map v) m.rows) (e ∙ sym (length-map m.rows (map v))) ∙ length-map m.rows (map v)
+
+row_get : {F : Type 0} (rows : List (List F)) (i : ℕ) → i < length rows → slice_get rows i ≡ Some (get_or rows i [])
+row_get [] i h = absurd (omega arith)
+row_get (r ∷ rows) zero h = refl
+row_get (r ∷ rows) (suc i) h = row_get rows i (omega arith)
+
+pub state_get : {F : Type 0} (v : F → ℚ) (ps : List (Option ℕ)) (m : Grid F) (i : ℕ) (p : Option ℕ) → slice_get ps i ≡ Some p → i < length m.rows →
+    slice_get (state v ps m) i ≡ Some (line p (map v (row_at m i)))
+state_get v ps m i p h k =
+    lines_get ps (map (map v) m.rows) i p (map v (row_at m i)) h (slice_get-map (map v) m.rows i ∙ ap (option_map (map v)) (row_get m.rows i k))
+
+pub state_set : {F : Type 0} (v : F → ℚ) (ps : List (Option ℕ)) (m : Grid F) (i : ℕ) (p : Option ℕ) (row : List F) → slice_get ps i ≡ Some p →
+    state v ps (with_row m i row) ≡ set (state v ps m) i (line p (map v row))
+state_set v ps m i p row h = ap (lines ps) (map-set (map v) m.rows i row) ∙ lines_set ps (map (map v) m.rows) i p (map v row) h
+
+pub state_set_both : {F : Type 0} (v : F → ℚ) (ps : List (Option ℕ)) (m : Grid F) (i : ℕ) (p : Option ℕ) (row : List F) →
+    state v (set ps i p) (with_row m i row) ≡ set (state v ps m) i (line p (map v row))
+state_set_both v ps m i p row = ap (lines (set ps i p)) (map-set (map v) m.rows i row) ∙ lines_set_both ps (map (map v) m.rows) i p (map v row)
+
+-- the number of an entry that is read
+pub entry_read : {F : Type 0} (v : F → ℚ) (row : List F) (j : ℕ) (x : F) → slice_get row j ≡ Some x → entry (map v row) j ≡ v x
+entry_read v row j x h = get_or_from_slice_get (map v row) j (v x) zero_ℚ (slice_get-map v row j ∙ ap (option_map v) h)
+
+-- no line before i may be the pivot row of column j
+pub record IsNoneBefore (j : ℕ) (ls : List Line) (i : ℕ) : Type 0 where
+  pub rest : pivot_row j ls ≡ pivot_row j (drop i ls)
+  pub placed : (p : List ℚ) → with_pivot j p ls ≡ take i ls ++ with_pivot j p (drop i ls)
+
+pub none_at_start : (j : ℕ) (ls : List Line) → IsNoneBefore j ls 0
+none_at_start j ls = record { rest = refl; placed = λ p. refl }
+
+passed_row : (j : ℕ) (ls : List Line) (i : ℕ) (l : Line) → slice_get ls i ≡ Some l → may_pivot j l ≡ false → pivot_row j (drop i ls) ≡ pivot_row j (drop (suc i) ls)
+unfolding pivot_row
+passed_row j [] i l h e = absurd cc
+passed_row j (x ∷ ls) zero l h e = let s : x ≡ l = cc in rw (s, e)
+passed_row j (x ∷ ls) (suc i) l h e = passed_row j ls i l h e
+
+passed_placed : (j : ℕ) (p : List ℚ) (ls : List Line) (i : ℕ) (l : Line) → slice_get ls i ≡ Some l → may_pivot j l ≡ false →
+    take i ls ++ with_pivot j p (drop i ls) ≡ take (suc i) ls ++ with_pivot j p (drop (suc i) ls)
+unfolding with_pivot
+passed_placed j p [] i l h e = absurd cc
+passed_placed j p (x ∷ ls) zero l h e = let s : x ≡ l = cc in rw (s, e)
+passed_placed j p (x ∷ ls) (suc i) l h e = ap (λ t. x ∷ t) (passed_placed j p ls i l h e)
+
+pub none_before_more : (j : ℕ) (ls : List Line) (i : ℕ) (l : Line) → slice_get ls i ≡ Some l → may_pivot j l ≡ false → IsNoneBefore j ls i → IsNoneBefore j ls (i + 1)
+none_before_more j ls i l h e n = rw add-one (record { rest = n.rest ∙ passed_row j ls i l h e; placed = λ p. n.placed p ∙ passed_placed j p ls i l h e })
+
+pub none_at_end : (j : ℕ) (ls : List Line) (i : ℕ) → length ls ≤ i → IsNoneBefore j ls i → pivot_row j ls ≡ None
+unfolding pivot_row
+none_at_end j ls i h n = n.rest ∙ ap (pivot_row j) (drop_of_length-le ls h)
+
+here_row : (j : ℕ) (ls : List Line) (i : ℕ) (l : Line) → slice_get ls i ≡ Some l → may_pivot j l ≡ true → pivot_row j (drop i ls) ≡ Some l.entries
+unfolding pivot_row
+here_row j [] i l h e = absurd cc
+here_row j (x ∷ ls) zero l h e = let s : x ≡ l = cc in rw (s, e)
+here_row j (x ∷ ls) (suc i) l h e = here_row j ls i l h e
+
+here_placed : (j : ℕ) (p : List ℚ) (ls : List Line) (i : ℕ) (l : Line) → slice_get ls i ≡ Some l → may_pivot j l ≡ true →
+    take i ls ++ with_pivot j p (drop i ls) ≡ set ls i (used j p)
+unfolding with_pivot
+here_placed j p [] i l h e = absurd cc
+here_placed j p (x ∷ ls) zero l h e = let s : x ≡ l = cc in rw (s, e)
+here_placed j p (x ∷ ls) (suc i) l h e = ap (λ t. x ∷ t) (here_placed j p ls i l h e)
+
+unused_here : (p : Option ℕ) (b : Bool) → (is_unused p && not b) ≡ true → b ≡ false
+unused_here None true e = absurd cc
+unused_here None false e = refl
+unused_here (Some k) b e = absurd cc
+
+-- the row at i is the pivot row
+pub pivot_found : {F : Type 0} (v : F → ℚ) (j : ℕ) (ps : List (Option ℕ)) (m : Grid F) (i : ℕ) (p : Option ℕ) → slice_get ps i ≡ Some p → i < length m.rows →
+    may_pivot j (line p (map v (row_at m i))) ≡ true → IsNoneBefore j (state v ps m) i → IsPivotAt v j ps m i
+pivot_found v j ps m i p h k e n =
+    let g = state_get v ps m i p h k in
+    record {
+      within = k;
+      row = n.rest ∙ here_row j (state v ps m) i _ g e;
+      placed = λ q. n.placed q ∙ here_placed j q (state v ps m) i _ g e;
+      nonzero = num-ne_of_test (entry (map v (row_at m i)) j) (unused_here p (same_fields (entry (map v (row_at m i)) j) zero_ℚ) e)
+    }
