@@ -1,7 +1,7 @@
 -- The lines that the program holds, when a row or a pivot is written; and where the pivot row of a column is.
 use Rattle.std.proofs.Common.{◌≡◌, ◌≢◌, ℕ, Bool, true, false, zero, suc, ◌+◌, ◌≤◌, ◌<◌, Option, Some, None, List, [], ◌∷◌, ◌++◌, length, map, take, drop, get_or, slice_get, sym, ap, ◌∙◌, refl, arith, add-one, append_assoc}
-use Rattle.std.specs.Prelude.{pos, Result, Ok, Err, not, ◌&&◌}
-use Rattle.std.specs.Option.{option_map}
+use Rattle.std.specs.Prelude.{pos, Result, Ok, Err, not, ◌&&◌, ◌||◌}
+use Rattle.std.specs.Option.{option_map, is_some}
 use Rattle.std.proofs.Math.ListN.{set, drop_of_length-le}
 use Rattle.std.proofs.lemmas.List.{map-set, get_or-map, length-map, length-set, set_split, append-nil, take_all, take_more_set}
 use Rattle.std.proofs.lemmas.Option.{slice_get-map, get_or_from_slice_get, slice_get_within}
@@ -11,9 +11,10 @@ use Rattle.rational.specs.Sums.{entry}
 use Rattle.rational.proofs.Wholes.{num-ne_of_test}
 use Rattle.frac_core.specs.declared.fractions.Refused.{Refused}
 use Rattle.exact_matrix.specs.Grid.{Grid, row_at, with_row}
-use Rattle.exact_matrix.specs.Elimination.{Line, used, is_unused, may_pivot, pivot_row, with_pivot}
-use Rattle.exact_matrix.specs.EliminationCalculation.{freed_in, each_freed_in, line_then}
-use Rattle.exact_matrix.specs.State.{lines, state, IsPivotAt, IsPivotPlace}
+use Rattle.exact_matrix.specs.Elimination.{Line, used, is_pivot, is_unused, may_pivot, pivot_row, with_pivot}
+use Rattle.exact_matrix.specs.EliminationCalculation.{freed_in, each_freed_in, line_then, with_entries}
+use Rattle.exact_matrix.specs.State.{lines, state, IsLine, IsPivotAt, IsPivotPlace}
+use Rattle.frac_core.specs.Row.{Row, IsRow, row_less}
 use Rattle.exact_matrix.proofs.Passes.{drop_after_set}
 
 abbrev line : Option ℕ → List ℚ → Line
@@ -128,3 +129,37 @@ pivot_found v j ps m i p h k e n =
       placed = λ q. n.placed q ∙ here_placed j q (state v ps m) i _ g e;
       nonzero = num-ne_of_test (entry (map v (row_at m i)) j) (unused_here p (same_fields (entry (map v (row_at m i)) j) zero_ℚ) e)
     }
+
+-- the test as the program makes it
+pub may_unused : (p : Option ℕ) (n b : Bool) → is_some p ≡ not n → n ≡ true → not b ≡ (is_unused p && not b)
+may_unused None n b h e = refl
+may_unused (Some k) true b h e = absurd cc
+may_unused (Some k) false b h e = absurd cc
+
+pub may_used : (p : Option ℕ) (n b : Bool) → is_some p ≡ not n → n ≡ false → n ≡ (is_unused p && not b)
+may_used None true b h e = absurd cc
+may_used None false b h e = absurd cc
+may_used (Some k) n b h e = e
+
+pub freed_pivot : (top j : ℕ) (p : List ℚ) (l : Line) → is_pivot j l.pivot ≡ true → freed_in top j p l ≡ Ok l
+unfolding freed_in
+freed_pivot top j p l h = rw h
+
+or_true : (a b : Bool) → b ≡ true → (a || b) ≡ true
+or_true true b h = refl
+or_true false b h = h
+
+pub freed_zero : (top j : ℕ) (p : List ℚ) (l : Line) → same_fields (entry l.entries j) zero_ℚ ≡ true → freed_in top j p l ≡ Ok l
+unfolding freed_in
+freed_zero top j p l h = rw (or_true (is_pivot j l.pivot) (same_fields (entry l.entries j) zero_ℚ) h)
+
+pub freed_more : (top j : ℕ) (p : List ℚ) (l : Line) → is_pivot j l.pivot ≡ false → same_fields (entry l.entries j) zero_ℚ ≡ false →
+    freed_in top j p l ≡ with_entries l.pivot (row_less top (entry l.entries j) l.entries p)
+unfolding freed_in
+freed_more top j p l h k = rw (h, k)
+
+-- a row that is taken from stands for a line
+pub taken_line : {F : Type 0} (v : F → ℚ) (result : Result (Unit {0}) Refused) (pivot : Option ℕ) (row : List F) (r : Row) →
+    IsRow v result row r → IsLine result (line pivot (map v row)) (with_entries pivot r)
+taken_line v (Ok u) pivot row r h = ap (with_entries pivot) h
+taken_line v (Err e) pivot row r h = ap (with_entries pivot) h

@@ -1,5 +1,6 @@
 // The elimination of the first columns of a matrix.
 
+ghost use Rattle.exact_matrix.specs.Elimination.{is_pivot, may_pivot};
 ghost use Rattle.exact_matrix.specs.EliminationCalculation.{freed_in, each_freed_in, step_in, eliminated_in};
 ghost use Rattle.exact_matrix.specs.Grid.{row_at, with_row};
 ghost use Rattle.exact_matrix.specs.State.{state, IsLine, IsLines, IsPivotAt, IsPivotPlace, IsSameShape};
@@ -7,6 +8,15 @@ ghost use Rattle.std.specs.Prelude.{◌≡◌, ◌<◌, ◌≤◌, length, map, 
 
 use crate::matrix::Matrix;
 use frac_core::{ExactField, Refused, Vector, is_zero};
+
+// Whether the row at `i`, with the pivot of the column at `pivot`, is not used and not 0 in the column at `j`.
+fn may_pivot<F: ExactField>(rows: &Matrix<F>, i: usize, pivot: Option<usize>, j: usize) -> bool
+    requires row { i < length rows.now.rows }
+    requires column { j < rows.now.columns }
+    ensures { result ≡ may_pivot j (record { pivot = pivot; entries = map F.value (row_at rows.now i) }) }
+{
+    pivot.is_none() && !is_zero(rows.at(i, j))
+}
 
 // The first row that is not used and not 0 in the column at `j`.
 pub(crate) fn pivot_place<F: ExactField>(
@@ -19,11 +29,21 @@ pub(crate) fn pivot_place<F: ExactField>(
     ensures { IsPivotPlace F.value j pivots.now rows.now result }
 {
     for i in 0..rows.rows() {
-        if pivots.at(i).is_none() && !is_zero(rows.at(i, j)) {
+        if may_pivot(rows, i, pivots.at(i), j) {
             return Some(i);
         }
     }
     None
+}
+
+// Whether the column at `j` is the one with the pivot.
+pub(crate) fn is_pivot(pivot: Option<usize>, j: usize) -> bool
+    ensures { result ≡ is_pivot j pivot }
+{
+    match pivot {
+        Some(k) => k == j,
+        None => false,
+    }
 }
 
 // Frees the row at `i` of its entry in the column at `j`, by the pivot row `p` of that column.
@@ -40,7 +60,7 @@ fn free_row<F: ExactField>(
     ensures line { IsLine result (record { pivot = pivot; entries = map F.value (row_at rows.new i) }) (freed_in (unsigned_abs F.TOP) j (map F.value p.now) (record { pivot = pivot; entries = map F.value (row_at rows.old i) })) }
     ensures rest { rows.new ≡ with_row rows.old i (row_at rows.new i) }
 {
-    if pivot == Some(j) {
+    if is_pivot(pivot, j) {
         return Ok(());
     }
     let factor = rows.at(i, j);

@@ -1,6 +1,6 @@
 // Systems of equations and inverses, by elimination.
 
-use crate::elimination::{eliminate, pivot_place};
+use crate::elimination::{eliminate, is_pivot, pivot_place};
 use crate::matrix::Matrix;
 use frac_core::{ExactField, Memory, Refused, Vector};
 use std::alloc::Global;
@@ -79,7 +79,7 @@ fn invert_rows<F: ExactField>(alloc: Global, m: &Matrix<F>) -> Result<Matrix<F>,
 // The row that has the pivot of the column at `j`.
 fn row_of_pivot(pivots: &Vector<Option<usize>>, j: usize) -> Option<usize> {
     for i in 0..pivots.len() {
-        if pivots.at(i) == Some(j) {
+        if is_pivot(pivots.at(i), j) {
             return Some(i);
         }
     }
