@@ -13,7 +13,7 @@ use Rattle.frac_core.specs.declared.fractions.Refused.{Refused}
 use Rattle.exact_matrix.specs.Grid.{Grid, row_at, with_row}
 use Rattle.exact_matrix.specs.Elimination.{Line, used, is_pivot, is_unused, may_pivot, pivot_row, with_pivot}
 use Rattle.exact_matrix.specs.EliminationCalculation.{freed_in, each_freed_in, line_then, with_entries}
-use Rattle.exact_matrix.specs.State.{lines, state, IsLine, IsPivotAt, IsPivotPlace}
+use Rattle.exact_matrix.specs.State.{lines, state, IsLine, IsPivotAt, IsPivotPlace, IsSameShape}
 use Rattle.frac_core.specs.Row.{Row, IsRow, row_less}
 use Rattle.exact_matrix.proofs.Passes.{drop_after_set}
 
@@ -163,3 +163,56 @@ pub taken_line : {F : Type 0} (v : F → ℚ) (result : Result (Unit {0}) Refuse
     IsRow v result row r → IsLine result (line pivot (map v row)) (with_entries pivot r)
 taken_line v (Ok u) pivot row r h = ap (with_entries pivot) h
 taken_line v (Err e) pivot row r h = ap (with_entries pivot) h
+
+-- lines before a result
+abbrev pub append_lines : List Line → Result (List Line) Refused → Result (List Line) Refused
+append_lines xs (Ok ys) = Ok (xs ++ ys)
+append_lines xs (Err r) = Err r
+
+pub append_no_lines : (r : Result (List Line) Refused) → append_lines [] r ≡ r
+append_no_lines (Ok ys) = refl
+append_no_lines (Err r) = refl
+
+append_line : (xs : List Line) (l : Line) (r : Result (List Line) Refused) → append_lines (xs ++ l ∷ []) r ≡ append_lines xs (line_then (Ok l) r)
+append_line xs l (Ok ys) = ap Ok (append_assoc xs (l ∷ []) ys)
+append_line xs l (Err r) = refl
+
+each_next : (top j : ℕ) (p : List ℚ) (ls : List Line) (i : ℕ) (l : Line) → slice_get ls i ≡ Some l →
+    each_freed_in top j p (drop i ls) ≡ line_then (freed_in top j p l) (each_freed_in top j p (drop (suc i) ls))
+unfolding each_freed_in
+each_next top j p [] i l h = absurd cc
+each_next top j p (x ∷ ls) zero l h = let e : x ≡ l = cc in rw e
+each_next top j p (x ∷ ls) (suc i) l h = each_next top j p ls i l h
+
+-- the lines with the one at i written stand for the same calculation
+pub each_more : (top j : ℕ) (p : List ℚ) (ls : List Line) (i : ℕ) (l m : Line) → i < length ls → slice_get ls i ≡ Some l → freed_in top j p l ≡ Ok m →
+    append_lines (take (i + 1) (set ls i m)) (each_freed_in top j p (drop (i + 1) (set ls i m))) ≡ append_lines (take i ls) (each_freed_in top j p (drop i ls))
+each_more top j p ls i l m within h e =
+    rw (take_more_set ls i m within, add-one, drop_after_set ls i m)
+    (append_line (take i ls) m (each_freed_in top j p (drop (suc i) ls))
+    ∙ ap (λ t. append_lines (take i ls) (line_then t (each_freed_in top j p (drop (suc i) ls)))) (sym e)
+    ∙ ap (append_lines (take i ls)) (sym (each_next top j p ls i l h)))
+
+pub each_past : (top j : ℕ) (p : List ℚ) (ls : List Line) (i : ℕ) (l : Line) (r : Refused) → slice_get ls i ≡ Some l → freed_in top j p l ≡ Err r →
+    append_lines (take i ls) (each_freed_in top j p (drop i ls)) ≡ Err r
+each_past top j p ls i l r h e =
+    ap (append_lines (take i ls)) (each_next top j p ls i l h ∙ ap (λ t. line_then t (each_freed_in top j p (drop (suc i) ls))) e)
+
+pub each_end : (top j : ℕ) (p : List ℚ) (ls : List Line) (i : ℕ) → length ls ≤ i → append_lines (take i ls) (each_freed_in top j p (drop i ls)) ≡ Ok ls
+unfolding each_freed_in
+each_end top j p ls i h = rw (drop_of_length-le ls h) (ap Ok (append-nil (take i ls) ∙ take_all i ls h))
+
+pub with_row_shape : {F : Type 0} (m g : Grid F) (i : ℕ) (row : List F) → g ≡ with_row m i row → IsSameShape m g
+with_row_shape m g i row e = record { columns = ap (λ g. g.columns) e; rows = ap (λ g. length g.rows) e ∙ length-set m.rows i row }
+
+pub state_now : {F : Type 0} (v : F → ℚ) (ps : List (Option ℕ)) (m g : Grid F) (i : ℕ) (pivot : Option ℕ) → slice_get ps i ≡ Some pivot → g ≡ with_row m i (row_at g i) →
+    state v ps g ≡ set (state v ps m) i (line pivot (map v (row_at g i)))
+state_now v ps m g i pivot h e = ap (state v ps) e ∙ state_set v ps m i pivot (row_at g i) h
+
+pub row_freed : {F : Type 0} (v : F → ℚ) (top j : ℕ) (p : List ℚ) (ps : List (Option ℕ)) (m g : Grid F) (i : ℕ) (pivot : Option ℕ) →
+    length ps ≡ length m.rows → i < length m.rows → slice_get ps i ≡ Some pivot → freed_in top j p (line pivot (map v (row_at m i))) ≡ Ok (line pivot (map v (row_at g i))) →
+    g ≡ with_row m i (row_at g i) →
+    append_lines (take (i + 1) (state v ps g)) (each_freed_in top j p (drop (i + 1) (state v ps g))) ≡ append_lines (take i (state v ps m)) (each_freed_in top j p (drop i (state v ps m)))
+row_freed v top j p ps m g i pivot l h k e r =
+    ap (λ ls. append_lines (take (i + 1) ls) (each_freed_in top j p (drop (i + 1) ls))) (state_now v ps m g i pivot k r)
+    ∙ each_more top j p (state v ps m) i _ _ (rw (state_length v ps m l) h) (state_get v ps m i pivot k h) e
