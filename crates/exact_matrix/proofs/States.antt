@@ -12,9 +12,9 @@ use Rattle.rational.proofs.Wholes.{num-ne_of_test}
 use Rattle.frac_core.specs.declared.fractions.Refused.{Refused}
 use Rattle.exact_matrix.specs.Grid.{Grid, row_at, with_row}
 use Rattle.exact_matrix.specs.Elimination.{Line, used, is_pivot, is_unused, may_pivot, pivot_row, with_pivot}
-use Rattle.exact_matrix.specs.EliminationCalculation.{freed_in, each_freed_in, line_then, with_entries}
+use Rattle.exact_matrix.specs.EliminationCalculation.{freed_in, each_freed_in, line_then, with_entries, divided_in, cleared_by, step_in_by, step_in}
 use Rattle.exact_matrix.specs.State.{lines, state, IsLine, IsPivotAt, IsPivotPlace, IsSameShape}
-use Rattle.frac_core.specs.Row.{Row, IsRow, row_less}
+use Rattle.frac_core.specs.Row.{Row, Entries, Refusal, IsRow, row_less}
 use Rattle.exact_matrix.proofs.Passes.{drop_after_set}
 
 abbrev line : Option ℕ → List ℚ → Line
@@ -216,3 +216,33 @@ pub row_freed : {F : Type 0} (v : F → ℚ) (top j : ℕ) (p : List ℚ) (ps : 
 row_freed v top j p ps m g i pivot l h k e r =
     ap (λ ls. append_lines (take (i + 1) ls) (each_freed_in top j p (drop (i + 1) ls))) (state_now v ps m g i pivot k r)
     ∙ each_more top j p (state v ps m) i _ _ (rw (state_length v ps m l) h) (state_get v ps m i pivot k h) e
+
+step_at : {F : Type 0} (v : F → ℚ) (top j : ℕ) (ps : List (Option ℕ)) (m : Grid F) (i : ℕ) (q : ℚ) → IsPivotAt v j ps m i → entry (map v (row_at m i)) j ≡ q →
+    step_in top j (state v ps m) ≡ cleared_by top j (state v ps m) (divided_in top q (map v (row_at m i)))
+unfolding step_in
+step_at v top j ps m i q a e =
+    ap (step_in_by top j (state v ps m)) a.row ∙ ap (λ (x : ℚ). cleared_by top j (state v ps m) (divided_in top x (map v (row_at m i)))) e
+
+pub cleared_past : {F : Type 0} (v : F → ℚ) (top j : ℕ) (ps : List (Option ℕ)) (m : Grid F) (i : ℕ) (q : ℚ) (r : Refused) → IsPivotAt v j ps m i → entry (map v (row_at m i)) j ≡ q →
+    divided_in top q (map v (row_at m i)) ≡ Refusal r → step_in top j (state v ps m) ≡ Err r
+cleared_past v top j ps m i q r a e d = step_at v top j ps m i q a e ∙ ap (cleared_by top j (state v ps m)) d
+
+pub cleared : {F : Type 0} (v : F → ℚ) (top j : ℕ) (ps : List (Option ℕ)) (m g : Grid F) (i : ℕ) (q : ℚ) → IsPivotAt v j ps m i → entry (map v (row_at m i)) j ≡ q →
+    divided_in top q (map v (row_at m i)) ≡ Entries (map v (row_at g i)) → g ≡ with_row m i (row_at g i) →
+    step_in top j (state v ps m) ≡ each_freed_in top j (map v (row_at g i)) (state v (set ps i (Some j)) g)
+cleared v top j ps m g i q a e d r =
+    step_at v top j ps m i q a e ∙ ap (cleared_by top j (state v ps m)) d
+    ∙ ap (each_freed_in top j (map v (row_at g i))) (a.placed (map v (row_at g i)) ∙ sym (ap (state v (set ps i (Some j))) r ∙ state_set_both v ps m i (Some j) (row_at g i)))
+
+pub no_pivot : (top j : ℕ) (ls : List Line) → pivot_row j ls ≡ None → step_in top j ls ≡ Ok ls
+unfolding step_in
+no_pivot top j ls h = ap (step_in_by top j ls) h
+
+-- the same with the pivot row that is copied, and the pivots that are written
+pub cleared_by_copy : {F : Type 0} (v : F → ℚ) (top j : ℕ) (ps qs : List (Option ℕ)) (m g : Grid F) (i : ℕ) (q : ℚ) (p row : List F) → IsPivotAt v j ps m i → entry (map v (row_at m i)) j ≡ q →
+    divided_in top q (map v (row_at m i)) ≡ Entries (map v (row_at g i)) → g ≡ with_row m i (row_at g i) → qs ≡ set ps i (Some j) → p ≡ row → row ≡ row_at g i →
+    step_in top j (state v ps m) ≡ each_freed_in top j (map v p) (state v qs g)
+cleared_by_copy v top j ps qs m g i q p row a e d r s t u =
+    cleared v top j ps m g i q a e d r
+    ∙ ap (λ row. each_freed_in top j (map v row) (state v (set ps i (Some j)) g)) (sym (t ∙ u))
+    ∙ ap (λ ps. each_freed_in top j (map v p) (state v ps g)) (sym s)
