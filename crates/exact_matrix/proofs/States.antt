@@ -1,5 +1,5 @@
 -- The lines that the program holds, when a row or a pivot is written; and where the pivot row of a column is.
-use Rattle.std.proofs.Common.{◌≡◌, ◌≢◌, ℕ, Bool, true, false, zero, suc, ◌+◌, ◌≤◌, ◌<◌, Option, Some, None, List, [], ◌∷◌, ◌++◌, length, map, take, drop, get_or, slice_get, sym, ap, ◌∙◌, refl, arith, add-one, append_assoc}
+use Rattle.std.proofs.Common.{◌≡◌, ◌≢◌, ℕ, Bool, true, false, zero, suc, ◌+◌, ◌-◌, ◌≤◌, ◌<◌, Option, Some, None, List, [], ◌∷◌, ◌++◌, length, map, take, drop, get_or, slice_get, sym, ap, ◌∙◌, refl, arith, add-one, append_assoc}
 use Rattle.std.specs.Prelude.{pos, Result, Ok, Err, not, ◌&&◌, ◌||◌}
 use Rattle.std.specs.Option.{option_map, is_some}
 use Rattle.std.proofs.Math.ListN.{set, drop_of_length-le}
@@ -12,7 +12,7 @@ use Rattle.rational.proofs.Wholes.{num-ne_of_test}
 use Rattle.frac_core.specs.declared.fractions.Refused.{Refused}
 use Rattle.exact_matrix.specs.Grid.{Grid, row_at, with_row}
 use Rattle.exact_matrix.specs.Elimination.{Line, used, is_pivot, is_unused, may_pivot, pivot_row, with_pivot}
-use Rattle.exact_matrix.specs.EliminationCalculation.{freed_in, each_freed_in, line_then, with_entries, divided_in, cleared_by, step_in_by, step_in}
+use Rattle.exact_matrix.specs.EliminationCalculation.{freed_in, each_freed_in, line_then, with_entries, divided_in, cleared_by, step_in_by, step_in, then_with, eliminated_from_in}
 use Rattle.exact_matrix.specs.State.{lines, state, IsLine, IsPivotAt, IsPivotPlace, IsSameShape}
 use Rattle.frac_core.specs.Row.{Row, Entries, Refusal, IsRow, row_less}
 use Rattle.exact_matrix.proofs.Passes.{drop_after_set}
@@ -246,3 +246,23 @@ cleared_by_copy v top j ps qs m g i q p row a e d r s t u =
     cleared v top j ps m g i q a e d r
     ∙ ap (λ row. each_freed_in top j (map v row) (state v (set ps i (Some j)) g)) (sym (t ∙ u))
     ∙ ap (λ ps. each_freed_in top j (map v p) (state v ps g)) (sym s)
+
+columns_next : (top k n j : ℕ) (ls : List Line) → k ≡ suc n → eliminated_from_in top k j ls ≡ then_with (step_in top j ls) (λ next. eliminated_from_in top n (suc j) next)
+unfolding eliminated_from_in
+columns_next top k n j ls e = rw e
+
+-- one column on
+pub columns_more : (top n j : ℕ) (ls ms : List Line) → j < n → step_in top j ls ≡ Ok ms → eliminated_from_in top (n - (j + 1)) (j + 1) ms ≡ eliminated_from_in top (n - j) j ls
+columns_more top n j ls ms h e =
+    let k : n - j ≡ suc (n - (j + 1)) = omega arith in let s : j + 1 ≡ suc j = omega arith in
+    sym (columns_next top (n - j) (n - (j + 1)) j ls k ∙ ap (λ (r : Result (List Line) Refused). then_with r (λ next. eliminated_from_in top (n - (j + 1)) (suc j) next)) e
+    ∙ ap (λ i. eliminated_from_in top (n - (j + 1)) i ms) (sym s))
+
+pub columns_past : (top n j : ℕ) (ls : List Line) (r : Refused) → j < n → step_in top j ls ≡ Err r → eliminated_from_in top (n - j) j ls ≡ Err r
+columns_past top n j ls r h e =
+    let k : n - j ≡ suc (n - (j + 1)) = omega arith in
+    columns_next top (n - j) (n - (j + 1)) j ls k ∙ ap (λ (r : Result (List Line) Refused). then_with r (λ next. eliminated_from_in top (n - (j + 1)) (suc j) next)) e
+
+pub columns_end : (top n j : ℕ) (ls : List Line) → n ≤ j → eliminated_from_in top (n - j) j ls ≡ Ok ls
+unfolding eliminated_from_in
+columns_end top n j ls h = let e : n - j ≡ 0 = omega arith in rw e
