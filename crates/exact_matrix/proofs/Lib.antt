@@ -1,1 +1,3 @@
 pub mod WorkedElimination
+pub mod EliminationLines
+pub mod EliminationCalculated
