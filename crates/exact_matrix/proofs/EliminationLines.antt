@@ -152,41 +152,43 @@ by_pivot_row j ls f g = option_cases (pivot_row j ls) f g
 
 -- what holds of each line through a step
 pub step_each : (P Q : Line → Type 0) (j : ℕ) (ls : List Line)
-    → ((l : Line) → may_pivot j l ≡ false → P l → Q l)
-    → ((row : List ℚ) → same_fields (entry row j) zero_ℚ ≡ false → P (unused row) → Q (used j (divided (entry row j) row)) × ((l : Line) → P l → Q (freed j (divided (entry row j) row) l)))
+    → (pivot_row j ls ≡ None → (l : Line) → may_pivot j l ≡ false → P l → Q l)
+    → ((row : List ℚ) → pivot_row j ls ≡ Some row → same_fields (entry row j) zero_ℚ ≡ false → P (unused row) → Q (used j (divided (entry row j) row)) × ((l : Line) → P l → Q (freed j (divided (entry row j) row) l)))
     → AllByRecursion P ls → AllByRecursion Q (step j ls)
 step_each P Q j ls stays changes h = by_pivot_row j ls none some
   where
     none : pivot_row j ls ≡ None → AllByRecursion Q (step j ls)
-    none e = subst (AllByRecursion Q) (sym (step-none j ls e)) (each_weaker _ Q ls (λ l t. stays l t.0 t.1) (each_both (λ l. may_pivot j l ≡ false) P ls (not_found j ls e) h))
+    none e = subst (AllByRecursion Q) (sym (step-none j ls e)) (each_weaker _ Q ls (λ l t. stays e l t.0 t.1) (each_both (λ l. may_pivot j l ≡ false) P ls (not_found j ls e) h))
 
     some : (row : List ℚ) → pivot_row j ls ≡ Some row → AllByRecursion Q (step j ls)
     some row e =
         let f = found j ls row e in
         let t = each_parts P f.before (unused row) f.after (subst (AllByRecursion P) f.is h) in
-        let c = changes row f.nonzero t.1 in
+        let c = changes row e f.nonzero t.1 in
         let p = divided (entry row j) row in
         subst (AllByRecursion Q) (sym (stepped j ls row e)) (each_map Q (freed j p) (f.before ++ used j p ∷ f.after)
         (each_whole (λ l. Q (freed j p l)) f.before (used j p) f.after
         (each_weaker P (λ l. Q (freed j p l)) f.before c.1 t.0) (subst Q (sym (freed-used j p)) c.0) (each_weaker P (λ l. Q (freed j p l)) f.after c.1 t.2)))
 
 -- and back
-pub step_each_back : (P Q : Line → Type 0) (j : ℕ) (ls : List Line)
-    → ((l : Line) → Q l → P l)
-    → ((row : List ℚ) → same_fields (entry row j) zero_ℚ ≡ false → Q (used j (divided (entry row j) row)) → P (unused row) × ((l : Line) → Q (freed j (divided (entry row j) row) l) → P l))
-    → AllByRecursion Q (step j ls) → AllByRecursion P ls
-step_each_back P Q j ls stays changes h = by_pivot_row j ls none some
+pub step_each_back : (K P : Line → Type 0) (j : ℕ) (ls : List Line)
+    → ((row : List ℚ) → same_fields (entry row j) zero_ℚ ≡ false → K (unused row) → P (used j (divided (entry row j) row)) → P (unused row) × ((l : Line) → K l → P (freed j (divided (entry row j) row) l) → P l))
+    → AllByRecursion K ls → AllByRecursion P (step j ls) → AllByRecursion P ls
+step_each_back K P j ls changes known h = by_pivot_row j ls none some
   where
     none : pivot_row j ls ≡ None → AllByRecursion P ls
-    none e = each_weaker Q P ls stays (subst (AllByRecursion Q) (step-none j ls e) h)
+    none e = subst (AllByRecursion P) (step-none j ls e) h
 
     some : (row : List ℚ) → pivot_row j ls ≡ Some row → AllByRecursion P ls
     some row e =
         let f = found j ls row e in
         let p = divided (entry row j) row in
-        let t = each_parts (λ l. Q (freed j p l)) f.before (used j p) f.after (each_unmap Q (freed j p) (f.before ++ used j p ∷ f.after) (subst (AllByRecursion Q) (stepped j ls row e) h)) in
-        let c = changes row f.nonzero (subst Q (freed-used j p) t.1) in
-        subst (AllByRecursion P) (sym f.is) (each_whole P f.before (unused row) f.after (each_weaker (λ l. Q (freed j p l)) P f.before c.1 t.0) c.0 (each_weaker (λ l. Q (freed j p l)) P f.after c.1 t.2))
+        let g = each_parts K f.before (unused row) f.after (subst (AllByRecursion K) f.is known) in
+        let t = each_parts (λ l. P (freed j p l)) f.before (used j p) f.after (each_unmap P (freed j p) (f.before ++ used j p ∷ f.after) (subst (AllByRecursion P) (stepped j ls row e) h)) in
+        let c = changes row f.nonzero g.1 (subst P (freed-used j p) t.1) in
+        let back = λ (xs : List Line) (a : AllByRecursion K xs) (b : AllByRecursion (λ l. P (freed j p l)) xs).
+        each_weaker (λ l. K l × P (freed j p l)) P xs (λ l u. c.1 l u.0 u.1) (each_both K (λ l. P (freed j p l)) xs a b) in
+        subst (AllByRecursion P) (sym f.is) (each_whole P f.before (unused row) f.after (back f.before g.0 t.0) c.0 (back f.after g.2 t.2))
 
 -- ---- all steps
 
@@ -237,8 +239,8 @@ length-freed w j p l e h = bool_cases (is_pivot j l.pivot)
 
 pub width-step : (w j : ℕ) (ls : List Line) → HasWidth w ls → HasWidth w (step j ls)
 width-step w j ls h =
-    step_each (λ l. length l.entries ≡ w) (λ l. length l.entries ≡ w) j ls (λ l _ e. e)
-    (λ row _ e. let d = length-divided (entry row j) row ∙ e in (d, λ l k. length-freed w j (divided (entry row j) row) l d k)) h
+    step_each (λ l. length l.entries ≡ w) (λ l. length l.entries ≡ w) j ls (λ _ l _ e. e)
+    (λ row _ _ e. let d = length-divided (entry row j) row ∙ e in (d, λ l k. length-freed w j (divided (entry row j) row) l d k)) h
 
 -- with the pivot row divided
 pub width-with_pivot : (w j : ℕ) (ls : List Line) (row : List ℚ) → pivot_row j ls ≡ Some row → HasWidth w ls → HasWidth w (with_pivot j (divided (entry row j) row) ls) × (length (divided (entry row j) row) ≡ w)

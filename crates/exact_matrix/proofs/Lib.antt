@@ -1,3 +1,5 @@
 pub mod WorkedElimination
 pub mod EliminationLines
 pub mod EliminationCalculated
+pub mod EliminationKernel
+pub mod EliminationPivots
