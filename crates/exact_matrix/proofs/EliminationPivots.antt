@@ -168,6 +168,10 @@ less_clears : (j : ℕ) (p row : List ℚ) → length row ≡ length p → entry
 less_clears j p row h e =
     entry-less j p row j h ∙ ap (λ t. entry row j +ℚ neg_ℚ (entry row j) *ℚ t) e ∙ ring rationals (entry row j ∷ []) (λ x. x ⊕ minus x ⊗ lit 1 ≐ lit 0) refl
 
+not_yet : (j : ℕ) (o : Option ℕ) → ((k : ℕ) → o ≡ Some k → k < j) → is_pivot j o ≡ false
+not_yet j None b = refl
+not_yet j (Some k) b = other_column k j (λ f. let g = b k refl in omega arith)
+
 -- the pivot row
 module _ (w j : ℕ) (ls : List Line) (row : List ℚ) (e : pivot_row j ls ≡ Some row) (nz : same_fields (entry row j) zero_ℚ ≡ false)
     (apart : AllByRecursion (λ l. is_pivot j l.pivot ≡ false) ls) (s : Shaped w j ls (unused row)) where
@@ -218,15 +222,7 @@ module _ (w j : ℕ) (ls : List Line) (row : List ℚ) (e : pivot_row j ls ≡ S
       same = t.width ∙ sym (length-divided (entry row j) row ∙ s.width)
 
       off : is_pivot j l.pivot ≡ false
-      off = by l.pivot t.below
-        where
-          by : (o : Option ℕ) → ((k : ℕ) → o ≡ Some k → k < j) → is_pivot j o ≡ false
-          by None b = refl
-          by (Some k) b = other_column k j (λ f. let g = b k refl in omega arith)
-
-not_yet : (j : ℕ) (o : Option ℕ) → ((k : ℕ) → o ≡ Some k → k < j) → is_pivot j o ≡ false
-not_yet j None b = refl
-not_yet j (Some k) b = other_column k j (λ f. let g = b k refl in omega arith)
+      off = not_yet j l.pivot t.below
 
 none_yet : (w j : ℕ) (ls : List Line) → AreShaped w j ls → AllByRecursion (λ l. is_pivot j l.pivot ≡ false) ls
 none_yet w j ls h = each_weaker (Shaped w j ls) (λ l. is_pivot j l.pivot ≡ false) ls (λ l s. not_yet j l.pivot s.below) h

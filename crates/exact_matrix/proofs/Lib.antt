@@ -3,3 +3,4 @@ pub mod EliminationLines
 pub mod EliminationCalculated
 pub mod EliminationKernel
 pub mod EliminationPivots
+pub mod EliminationVectors
