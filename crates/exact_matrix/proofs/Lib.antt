@@ -4,3 +4,5 @@ pub mod EliminationCalculated
 pub mod EliminationKernel
 pub mod EliminationPivots
 pub mod EliminationVectors
+pub mod EliminationTailed
+pub mod EliminationSolved
