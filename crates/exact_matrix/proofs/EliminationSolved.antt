@@ -15,6 +15,7 @@ use Rattle.rational.proofs.Order.{ordered_rationals}
 use Rattle.rational.proofs.Vectors.{length-zeros, length-scale, length-rows_dot, length-combine, dot_comm, dot-zeros_left, dot-zeros_right, dot-scale_right, same_by_dot, zeros_by_entries, transpose, entry-zeros}
 use Rattle.exact_matrix.specs.Elimination.{Line, unused, is_unused, is_pivot, may_pivot, pivot_row, eliminated}
 use Rattle.exact_matrix.specs.EliminationAnswers.{right_beside, unit_matrix, beside, solve_rows, lines_of, row_of_pivot, entry_in, solution_from, Answer, Solution, Refutation, answer_by, answer_of, solved}
+use Rattle.exact_matrix.specs.EliminationMeaning.{Solves, Refutes, IsRight}
 use Rattle.exact_matrix.proofs.EliminationLines.{each_both, each_weaker, each_parts, Found, found, not_found, HasWidth}
 use Rattle.exact_matrix.proofs.EliminationPivots.{Shaped, AreShaped, shaped, other_column, differs, column_cases}
 use Rattle.exact_matrix.proofs.EliminationVectors.{entry-take, length-front, length-back, drop-entry, dot-one_place, length-unit_rows, width-unit_rows, rows_dot-unit, length-right_beside, width-right_beside, rows_dot-right_beside, width-beside, zero_and_less, one_less_one, same_of_difference, rows_dot-zeros}
@@ -37,8 +38,8 @@ entry-solution_from (suc k) j n ls (suc c) h = entry-solution_from k (suc j) n l
     at : (j c : ℕ) → suc j + c ≡ j + suc c
     at j c = omega arith
 
-pub entry-solution : (n : ℕ) (ls : List Line) (c : ℕ) → c < n → entry (solution_from n 0 n ls) c ≡ entry_in (row_of_pivot c ls) n
-entry-solution n ls c h = entry-solution_from n 0 n ls c h ∙ ap (λ i. entry_in (row_of_pivot i ls) n) (at c)
+pub entry-solution : (n i : ℕ) (ls : List Line) (c : ℕ) → c < n → entry (solution_from n 0 i ls) c ≡ entry_in (row_of_pivot c ls) i
+entry-solution n i ls c h = entry-solution_from n 0 i ls c h ∙ ap (λ k. entry_in (row_of_pivot k ls) i) (at c)
   where
     at : (c : ℕ) → 0 + c ≡ c
     at c = omega arith
@@ -49,13 +50,25 @@ zero_right a b e = ap (λ t. a *ℚ t) e ∙ laws.mul_zero rationals a
 zero_left : (a b : ℚ) → a ≡ zero_ℚ → a *ℚ b ≡ zero_ℚ
 zero_left a b e = ap (λ t. t *ℚ b) e ∙ laws.zero_mul rationals b
 
--- off the pivot k of a line, its entry or the solution's is 0
-off_pivot : (w n : ℕ) (ls : List Line) (l : Line) (k c : ℕ) → Shaped w n ls l → l.pivot ≡ Some k → c ≢ k → entry l.entries c *ℚ entry_in (row_of_pivot c ls) n ≡ zero_ℚ
-off_pivot w n ls l k c s e d = by (row_of_pivot c ls) refl
+-- off the pivot k of a line, its entry or the entry at column i of the row of that column's pivot is 0
+off_pivot : (w n i : ℕ) (ls : List Line) (l : Line) (k c : ℕ) → Shaped w n ls l → l.pivot ≡ Some k → c ≢ k → entry l.entries c *ℚ entry_in (row_of_pivot c ls) i ≡ zero_ℚ
+off_pivot w n i ls l k c s e d = by (row_of_pivot c ls) refl
   where
-    by : (o : Option (List ℚ)) → row_of_pivot c ls ≡ o → entry l.entries c *ℚ entry_in o n ≡ zero_ℚ
+    by : (o : Option (List ℚ)) → row_of_pivot c ls ≡ o → entry l.entries c *ℚ entry_in o i ≡ zero_ℚ
     by None h = zero_right (entry l.entries c) zero_ℚ refl
-    by (Some row) h = zero_left (entry l.entries c) (entry row n) (s.other c row h (subst (λ o. is_pivot c o ≡ false) (sym e) (other_column k c (λ f. d (sym f)))))
+    by (Some row) h = zero_left (entry l.entries c) (entry row i) (s.other c row h (subst (λ o. is_pivot c o ≡ false) (sym e) (other_column k c (λ f. d (sym f)))))
+
+-- a row that is used gives, of the entries at column i of the rows of the pivots, its own entry there
+pub used_row_holds : (w n i : ℕ) (ls : List Line) (l : Line) (k : ℕ) → Shaped w n ls l → l.pivot ≡ Some k → dot (take n l.entries) (solution_from n 0 i ls) ≡ entry l.entries i
+used_row_holds w n i ls l k s e =
+    let z = solution_from n 0 i ls in
+    let b = s.below k e in
+    dot-one_place k (take n l.entries) z (λ c l1 d.
+      let c_below : c < n = subst (λ t. c < t) (length-solution_from n 0 i ls) l1 in
+      ap (λ t. t *ℚ entry z c) (entry-take n l.entries c c_below) ∙ ap (λ t. entry l.entries c *ℚ t) (entry-solution n i ls c c_below) ∙ off_pivot w n i ls l k c s e d)
+    ∙ ap (λ t. t *ℚ entry z k) (entry-take n l.entries k b ∙ s.one k e)
+    ∙ ap (λ t. one_ℚ *ℚ t) (entry-solution n i ls k b ∙ ap (λ o. entry_in o i) (s.own k e))
+    ∙ ring rationals (entry l.entries i ∷ []) (λ x. lit 1 ⊗ x ≐ x) refl
 
 -- a row that is not used has nothing before column n
 pub unused_front : (w n : ℕ) (ls : List Line) (l : Line) → n ≤ w → Shaped w n ls l → l.pivot ≡ None → take n l.entries ≡ zeros n
@@ -79,14 +92,7 @@ row_holds w n ls l h s m = by l.pivot refl
 
     by : (o : Option ℕ) → l.pivot ≡ o → dot (take n l.entries) z ≡ entry l.entries n
     by None e = ap (λ u. dot u z) (unused_front w n ls l h s e) ∙ dot-zeros_left n z ∙ sym (last l.pivot (entry l.entries n) e m)
-    by (Some k) e =
-        let b = s.below k e in
-        dot-one_place k (take n l.entries) z (λ c l1 d.
-          let c_below : c < n = subst (λ t. c < t) (length-solution_from n 0 n ls) l1 in
-          ap (λ t. t *ℚ entry z c) (entry-take n l.entries c c_below) ∙ ap (λ t. entry l.entries c *ℚ t) (entry-solution n ls c c_below) ∙ off_pivot w n ls l k c s e d)
-        ∙ ap (λ t. t *ℚ entry z k) (entry-take n l.entries k b ∙ s.one k e)
-        ∙ ap (λ t. one_ℚ *ℚ t) (entry-solution n ls k b ∙ ap (λ o. entry_in o n) (s.own k e))
-        ∙ ring rationals (entry l.entries n ∷ []) (λ x. lit 1 ⊗ x ≐ x) refl
+    by (Some k) e = used_row_holds w n n ls l k s e
 
 -- ---- the rows of [M | r | I]
 
@@ -219,3 +225,16 @@ module _ (n : ℕ) (M : List (List ℚ)) (r : List ℚ) (columns : HasColumns n 
 
   pub refutation_nonzero : (row : List ℚ) → pivot_row n final ≡ Some row → ¬ (entry row n ≡ zero_ℚ)
   refutation_nonzero row e = differ_of_same_fields (entry row n) zero_ℚ (found n final row e).nonzero
+
+  -- the answer is right
+  pub answer_is_right : IsRight n M r (solved n M r)
+  answer_is_right = by (pivot_row n final) refl
+    where
+      by : (o : Option (List ℚ)) → pivot_row n final ≡ o → IsRight n M r (answer_by n final o)
+      by None e = record { size = length-solution_from n 0 n final; same = solution_solves e }
+      by (Some row) e = record { size = refutation_length row e; nothing = refutation_nothing row e; number = refutation_number row e; nonzero = refutation_nonzero row e }
+
+-- what is refuted has no solution
+pub refuted_has_none : (n : ℕ) (M : List (List ℚ)) (r w z : List ℚ) (v : ℚ) → HasColumns n M → Refutes n M r w v → Solves n M r z → ⊥
+refuted_has_none n M r w z v h f s =
+    f.nonzero (sym f.number ∙ ap (dot w) (sym s.same) ∙ transpose n w M z h ∙ ap (λ u. dot u z) f.nothing ∙ dot-zeros_left n z)

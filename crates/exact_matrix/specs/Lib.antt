@@ -2,3 +2,4 @@ pub mod Elimination
 pub mod EliminationAnswers
 pub mod EliminationOperations
 pub mod EliminationCalculation
+pub mod EliminationMeaning

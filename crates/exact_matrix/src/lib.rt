@@ -3,4 +3,4 @@
 
 mod laws;
 
-pub use laws::elimination_ends_with_its_first_refusal;
+pub use laws::{elimination_ends_with_its_first_refusal, elimination_solves};
