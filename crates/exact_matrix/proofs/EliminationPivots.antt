@@ -62,7 +62,7 @@ row_of_pivot-middle c (x ∷ xs) l m ys a b = bool_cases (is_pivot c x.pivot)
 abbrev pub less : ℕ → List ℚ → List ℚ → List ℚ
 less j p row = add_each row (scale (neg_ℚ (entry row j)) p)
 
-pivot-freed : (j : ℕ) (p : List ℚ) (l : Line) → (freed j p l).pivot ≡ l.pivot
+pub pivot-freed : (j : ℕ) (p : List ℚ) (l : Line) → (freed j p l).pivot ≡ l.pivot
 pivot-freed j p l = bool_cases (is_pivot j l.pivot)
     (λ e. ap (λ (m : Line). m.pivot) (freed-pivot j p l e))
     (λ e. ap (λ (m : Line). m.pivot) (freed-other j p l e))
@@ -105,9 +105,26 @@ row_of_pivot-own j ls row e h =
     ap (row_of_pivot j) (stepped j ls row e)
     ∙ row_of_pivot-found j p f.before f.after (each_parts (λ l. is_pivot j l.pivot ≡ false) f.before (unused row) f.after (subst (AllByRecursion (λ l. is_pivot j l.pivot ≡ false)) f.is h)).0
 
-mapped : {A B : Type 0} (f : A → B) (o : Option A) (y : B) → option_map f o ≡ Some y → (x : A) × (o ≡ Some x)
+pub mapped : {A B : Type 0} (f : A → B) (o : Option A) (y : B) → option_map f o ≡ Some y → (x : A) × (o ≡ Some x)
 mapped f None y h = absurd cc
 mapped f (Some x) y h = (x, refl)
+
+used_line : (c : ℕ) (l : Line) → is_pivot c l.pivot ≡ true → l ≡ used c l.entries
+used_line c l h = ap (λ (o : Option ℕ). record { pivot = o; entries = l.entries }) (by l.pivot h)
+  where
+    by : (o : Option ℕ) → is_pivot c o ≡ true → o ≡ Some c
+    by None h = absurd cc
+    by (Some k) h = ap Some (same_column k c h)
+
+some_row : (u v : List ℚ) → Some u ≡ Some v → u ≡ v
+some_row u v e = cc
+
+-- the row of a pivot is that of a line
+pub line_of_pivot : (P : Line → Type 0) (c : ℕ) (ls : List Line) (row : List ℚ) → row_of_pivot c ls ≡ Some row → AllByRecursion P ls → P (used c row)
+line_of_pivot P c [] row e h = absurd (let bad : None ≡ Some row = sym (row_of_pivot-none c) ∙ e in cc)
+line_of_pivot P c (l ∷ ls) row e h = bool_cases (is_pivot c l.pivot)
+    (λ t. subst P (used_line c l t ∙ ap (used c) (some_row l.entries row (sym (row_of_pivot-here c l ls t) ∙ e))) h.0)
+    (λ t. line_of_pivot P c ls row (sym (row_of_pivot-later c l ls t) ∙ e) h.1)
 
 -- ---- the shape of a line among the lines ls after the columns before j
 
@@ -224,10 +241,10 @@ module _ (w j : ℕ) (ls : List Line) (row : List ℚ) (e : pivot_row j ls ≡ S
       off : is_pivot j l.pivot ≡ false
       off = not_yet j l.pivot t.below
 
-none_yet : (w j : ℕ) (ls : List Line) → AreShaped w j ls → AllByRecursion (λ l. is_pivot j l.pivot ≡ false) ls
+pub none_yet : (w j : ℕ) (ls : List Line) → AreShaped w j ls → AllByRecursion (λ l. is_pivot j l.pivot ≡ false) ls
 none_yet w j ls h = each_weaker (Shaped w j ls) (λ l. is_pivot j l.pivot ≡ false) ls (λ l s. not_yet j l.pivot s.below) h
 
-shaped-step : (w j : ℕ) (ls : List Line) → AreShaped w j ls → AreShaped w (suc j) (step j ls)
+pub shaped-step : (w j : ℕ) (ls : List Line) → AreShaped w j ls → AreShaped w (suc j) (step j ls)
 shaped-step w j ls h =
     step_each (Shaped w j ls) (Shaped w (suc j) (step j ls)) j ls
     (λ e l m s. subst (λ now. Shaped w (suc j) now l) (sym (step-none j ls e)) (shaped-stays w j ls l m s))
@@ -241,7 +258,7 @@ no_rows : (c : ℕ) (rows : List (List ℚ)) → row_of_pivot c (map unused rows
 no_rows c [] = row_of_pivot-none c
 no_rows c (row ∷ rows) = row_of_pivot-later c (unused row) (map unused rows) refl ∙ no_rows c rows
 
-shaped-first : (w : ℕ) (all rows : List (List ℚ)) → AllByRecursion (λ r. length r ≡ w) rows → AllByRecursion (Shaped w 0 (map unused all)) (map unused rows)
+pub shaped-first : (w : ℕ) (all rows : List (List ℚ)) → AllByRecursion (λ r. length r ≡ w) rows → AllByRecursion (Shaped w 0 (map unused all)) (map unused rows)
 shaped-first w all [] h = tt
 shaped-first w all (row ∷ rows) h =
     (record {

@@ -6,3 +6,4 @@ pub mod EliminationPivots
 pub mod EliminationVectors
 pub mod EliminationTailed
 pub mod EliminationSolved
+pub mod EliminationInverted
