@@ -1,6 +1,6 @@
 -- The inverse: where each column has a pivot it is one, and else the columns are dependent.
 use Rattle.std.proofs.Common.{◌≡◌, ◌≢◌, ℕ, zero, suc, ◌+◌, ◌<◌, ◌≤◌, ◌==◌, List, [], ◌∷◌, ◌++◌, map, length, take, drop, Option, Some, None, Bool, true, false, not, ◌&&◌, sym, ap, ◌∙◌, subst, refl, arith, inl, inr}
-use Rattle.std.specs.Prelude.{◌⊎◌}
+use Rattle.std.specs.Prelude.{◌⊎◌, pos}
 use Rattle.std.specs.List.{AllByRecursion}
 use Rattle.std.proofs.lemmas.List.Elements.{recursion_from_All, All-from_recursion}
 use Rattle.algebra.proofs.Ring as laws
@@ -19,7 +19,7 @@ use Rattle.exact_matrix.specs.EliminationAnswers.{unit_rows, unit_matrix, beside
 use Rattle.exact_matrix.specs.EliminationMeaning.{Depends, IsInverse, IsInverseOrDepends}
 use Rattle.exact_matrix.proofs.EliminationLines.{bool_cases, each_both, each_weaker, each_parts, Found, found, by_pivot_row, step-none, stepped, eliminated_keeps_all}
 use Rattle.exact_matrix.proofs.EliminationPivots.{Shaped, AreShaped, shaped, shaped-step, shaped-first, none_yet, row_of_pivot-none, row_of_pivot-here, row_of_pivot-later, row_of_pivot-step, line_of_pivot, pivot-freed, mapped, other_column, differs, column_cases}
-use Rattle.exact_matrix.proofs.EliminationVectors.{entry-take, length-front, length-back, length-unit_rows, width-unit_rows, rows_dot-unit, width-beside, itself_less, same_of_less}
+use Rattle.exact_matrix.proofs.EliminationVectors.{entry-take, length-front, length-back, length-unit_rows, width-unit_rows, rows_dot-unit, rows_dot-zeros, width-beside, itself_less, same_of_less}
 use Rattle.exact_matrix.proofs.EliminationSolved.{length-solution_from, entry-solution, used_row_holds, unused_front}
 use Rattle.exact_matrix.proofs.EliminationTailed as tailed
 
@@ -171,3 +171,251 @@ missing (suc k) j n ls h = by (rows_none n (row_of_pivot j ls) (inverse_from k (
         → (c : ℕ) × (c < suc k) × (row_of_pivot (j + c) ls ≡ None)
     by (inl e) f = (0, omega arith, ap (λ i. row_of_pivot i ls) (sym (start j)) ∙ e)
     by (inr e) f = let t = f e in (suc (t.0), (let b = t.1 in omega arith), ap (λ i. row_of_pivot i ls) (sym (from j t.0)) ∙ t.2)
+
+-- ---- lists of rows
+
+same_by_rows : (A B : List (List ℚ)) → length A ≡ length B → ((c : ℕ) → c < length A → row_at A c ≡ row_at B c) → A ≡ B
+same_by_rows [] [] h f = refl
+same_by_rows [] (b ∷ B) h f = absurd (omega arith)
+same_by_rows (a ∷ A) [] h f = absurd (omega arith)
+same_by_rows (a ∷ A) (b ∷ B) h f = ap (λ r. r ∷ A) (f 0 (omega arith)) ∙ ap (λ R. b ∷ R) (same_by_rows A B (omega arith) (λ c l. f (suc c) (omega arith)))
+
+row_at-map : (f : List ℚ → List ℚ) (A : List (List ℚ)) (c : ℕ) → c < length A → row_at (map f A) c ≡ f (row_at A c)
+row_at-map f [] c h = absurd (omega arith)
+row_at-map f (a ∷ A) zero h = refl
+row_at-map f (a ∷ A) (suc c) h = row_at-map f A c (omega arith)
+
+row_at-unit_rows : (m i k c : ℕ) → c < k → row_at (unit_rows m i k) c ≡ unit_vector m (i + c)
+row_at-unit_rows m i zero c h = absurd (omega arith)
+row_at-unit_rows m i (suc k) zero h = ap (unit_vector m) (at i)
+  where
+    at : (i : ℕ) → i ≡ i + zero
+    at i = omega arith
+row_at-unit_rows m i (suc k) (suc c) h = row_at-unit_rows m (suc i) k c (omega arith) ∙ ap (unit_vector m) (at i c)
+  where
+    at : (i c : ℕ) → suc i + c ≡ i + suc c
+    at i c = omega arith
+
+each_row : (P : List ℚ → Type 0) (A : List (List ℚ)) → ((c : ℕ) → c < length A → P (row_at A c)) → AllByRecursion P A
+each_row P [] f = tt
+each_row P (a ∷ A) f = (f 0 (omega arith), each_row P A (λ c l. f (suc c) (omega arith)))
+
+one_is_not_zero : one_ℚ ≡ zero_ℚ → ⊥
+one_is_not_zero e = absurd (let bad : pos 1 ≡ pos 0 = sym (num-whole (pos 1)) ∙ ap (λ (q : ℚ). q.num) e ∙ num-whole (pos 0) in cc)
+
+start_at : (c : ℕ) → 0 + c ≡ c
+start_at c = omega arith
+
+-- ---- the rows of [M | I], where M is square
+
+module _ (n : ℕ) (M : List (List ℚ)) (columns : HasColumns n M) (square : length M ≡ n) where
+  abbrev m : ℕ
+  m = length M
+
+  abbrev I : List (List ℚ)
+  I = unit_matrix m
+
+  abbrev w : ℕ
+  w = n + m
+
+  abbrev pub final : List Line
+  final = eliminated n (lines_of (invert_rows M))
+
+  m_width : AllByRecursion (λ row. length row ≡ n) M
+  m_width = recursion_from_All (λ row. length row ≡ n) M columns
+
+  i_width : AllByRecursion (λ row. length row ≡ m) I
+  i_width = width-unit_rows m 0 m
+
+  heights : length M ≡ length I
+  heights = sym (length-unit_rows m 0 m)
+
+  length-beside : (M X : List (List ℚ)) → length M ≡ length X → length (beside M X) ≡ length M
+  length-beside [] X h = refl
+  length-beside (row ∷ M) [] h = absurd (omega arith)
+  length-beside (row ∷ M) (x ∷ X) h = ap suc (length-beside M X (omega arith))
+
+  count : Counted w n (length (invert_rows M)) final
+  count = counted w n (invert_rows M) (width-beside n m M I m_width i_width)
+
+  shapes : AreShaped w n final
+  shapes = count.shapes
+
+  n_within : n ≤ w
+  n_within = omega arith
+
+  -- what a row has before column n is a combination of the rows of M, by its part under the unit matrix
+  pub front_is : (z : List ℚ) → length z ≡ n → AllByRecursion (λ l. dot (take n l.entries) z ≡ dot (drop n l.entries) (rows_dot M z)) final
+  front_is z e =
+      let a = rows_dot M z in
+      let la : length a ≡ m = length-rows_dot M z in
+      let u = scale (neg_ℚ one_ℚ) a in
+      each_weaker (λ l. dot (take n l.entries) z +ℚ dot (drop n l.entries) u ≡ zero_ℚ) (λ l. dot (take n l.entries) z ≡ dot (drop n l.entries) a) final
+      (λ l h. less_is (dot (take n l.entries) z) (dot (drop n l.entries) a) (dot (drop n l.entries) u) (dot-scale_right (drop n l.entries) (neg_ℚ one_ℚ) a) h)
+      (tailed.there n m M I m_width i_width heights z u e
+      (ap (add_each a) (rows_dot-unit m u (length-scale (neg_ℚ one_ℚ) a ∙ la)) ∙ itself_less a ∙ ap zeros la))
+    where
+      less_is : (d b u : ℚ) → u ≡ neg_ℚ one_ℚ *ℚ b → d +ℚ u ≡ zero_ℚ → d ≡ b
+      less_is d b u f h = prove ordered_rationals (d ∷ b ∷ []) (λ d b. d ≐ b ⇐ given (d ⊕ minus (lit 1) ⊗ b ≐ lit 0)) refl (ap (λ t. d +ℚ t) (sym f) ∙ h)
+
+  -- and back
+  pub rows_span : (z v : List ℚ) → length z ≡ n → length v ≡ m → AllByRecursion (λ l. dot (take n l.entries) z ≡ dot (drop n l.entries) v) final → rows_dot M z ≡ v
+  rows_span z v e f h =
+      let u = scale (neg_ℚ one_ℚ) v in
+      same_of_less (rows_dot M z) v (length-rows_dot M z ∙ sym f)
+      (ap (add_each (rows_dot M z)) (sym (rows_dot-unit m u (length-scale (neg_ℚ one_ℚ) v ∙ f)))
+      ∙ tailed.back n m M I m_width i_width heights z u e
+        (each_weaker (λ l. dot (take n l.entries) z ≡ dot (drop n l.entries) v) (λ l. dot (take n l.entries) z +ℚ dot (drop n l.entries) u ≡ zero_ℚ) final
+        (λ l g. none_left (dot (take n l.entries) z) (dot (drop n l.entries) v) (dot (drop n l.entries) u) g (dot-scale_right (drop n l.entries) (neg_ℚ one_ℚ) v)) h)
+      ∙ ap zeros (sym (length-rows_dot M z)))
+    where
+      none_left : (d b u : ℚ) → d ≡ b → u ≡ neg_ℚ one_ℚ *ℚ b → d +ℚ u ≡ zero_ℚ
+      none_left d b u g f = ap (λ t. t +ℚ u) g ∙ ap (λ t. b +ℚ t) f ∙ ring rationals (b ∷ []) (λ b. b ⊕ minus (lit 1) ⊗ b ≐ lit 0) refl
+
+  -- ---- each column has a pivot
+
+  module _ (N : List (List ℚ)) (e : inverse n M ≡ Some N) where
+    rows : RowsOf n 0 n final N
+    rows = rows_of n 0 n final N e
+
+    -- the row of the pivot of column c, whose part is row c of N
+    row : (c : ℕ) → c < n → (r : List ℚ) × (row_of_pivot c final ≡ Some r) × (row_at N c ≡ drop n r)
+    row c h = let t = rows.at c h in (t.0, ap (λ i. row_of_pivot i final) (sym (start_at c)) ∙ t.1, t.2)
+
+    pivots : HavePivots n final
+    pivots c h = let t = row c h in (t.0, t.1)
+
+    used_lines : AllByRecursion (λ l. (k : ℕ) × (l.pivot ≡ Some k)) final
+    used_lines = all_used final (count.count pivots ∙ sym (count.height ∙ length-beside M I heights ∙ square))
+
+    front_unit : (l : Line) (c : ℕ) → l.pivot ≡ Some c → Shaped w n final l → take n l.entries ≡ unit_vector n c
+    front_unit l c p s =
+        let f : length (take n l.entries) ≡ n = length-front n l.entries (let t = s.width in omega arith) in
+        same_by_entries (take n l.entries) (unit_vector n c) (f ∙ sym (length-unit_vector n c)) (λ i h.
+        let b : i < n = subst (λ t. i < t) f h in
+        entry-take n l.entries i b
+        ∙ column_cases i c
+          (λ g. ap (entry l.entries) g ∙ s.one c p ∙ sym (entry-unit_vector_same n c (s.below c p)) ∙ ap (entry (unit_vector n c)) (sym g))
+          (λ d. let t = pivots i b in s.other i t.0 t.1 (subst (λ o. is_pivot i o ≡ false) (sym p) (other_column c i (λ g. d (sym g)))) ∙ sym (entry-unit_vector_other n c i (λ g. d (sym g)))))
+
+    row_gives : (z : List ℚ) (c : ℕ) → length z ≡ n → c < n → dot (row_at N c) (rows_dot M z) ≡ entry z c
+    row_gives z c f h =
+        let t = row c h in
+        let s = line_of_pivot (Shaped w n final) c final t.0 t.1 shapes in
+        ap (λ r. dot r (rows_dot M z)) t.2
+        ∙ sym (line_of_pivot (λ l. dot (take n l.entries) z ≡ dot (drop n l.entries) (rows_dot M z)) c final t.0 t.1 (front_is z f))
+        ∙ ap (λ r. dot r z) (front_unit (used c t.0) c refl s) ∙ dot-unit_vector n c z (omega arith)
+
+    inverse_back : (z : List ℚ) → length z ≡ n → rows_dot N (rows_dot M z) ≡ z
+    inverse_back z f =
+        let g : length (rows_dot N (rows_dot M z)) ≡ n = length-rows_dot N (rows_dot M z) ∙ rows.height in
+        same_by_entries (rows_dot N (rows_dot M z)) z (g ∙ sym f) (λ c h. entry-rows_dot N (rows_dot M z) c ∙ row_gives z c f (subst (λ t. c < t) g h))
+
+    inverse_spans : (v : List ℚ) → length v ≡ n → rows_dot M (rows_dot N v) ≡ v
+    inverse_spans v f =
+        let z = rows_dot N v in
+        let g : length z ≡ n = length-rows_dot N v ∙ rows.height in
+        rows_span z v g (f ∙ sym square)
+        (each_weaker (λ l. Shaped w n final l × ((k : ℕ) × (l.pivot ≡ Some k))) (λ l. dot (take n l.entries) z ≡ dot (drop n l.entries) v) final
+        (λ l t.
+          let k = t.1.0 in
+          let p = t.1.1 in
+          let b = t.0.below k p in
+          let r = row k b in
+          ap (λ u. dot u z) (front_unit l k p t.0) ∙ dot-unit_vector n k z (omega arith) ∙ entry-rows_dot N v k
+          ∙ ap (λ u. dot u v) (r.2 ∙ ap (drop n) (same_row r.0 l.entries (sym r.1 ∙ t.0.own k p))))
+        (each_both (Shaped w n final) (λ l. (k : ℕ) × (l.pivot ≡ Some k)) final shapes used_lines))
+      where
+        same_row : (u v : List ℚ) → Some u ≡ Some v → u ≡ v
+        same_row u v e = cc
+
+    row_width : (c : ℕ) → c < n → length (row_at N c) ≡ n
+    row_width c h =
+        let t = row c h in
+        let s = line_of_pivot (Shaped w n final) c final t.0 t.1 shapes in
+        ap length t.2 ∙ length-back n t.0 m s.width ∙ square
+
+    row_product : (c : ℕ) → c < n → combine n (row_at N c) M ≡ unit_vector n c
+    row_product c h =
+        let r = row_at N c in
+        let f : length (combine n r M) ≡ n = length-combine n r M columns in
+        same_by_dot (combine n r M) (unit_vector n c) (f ∙ sym (length-unit_vector n c)) (λ z l.
+        dot_comm z (combine n r M) ∙ sym (transpose n r M z columns) ∙ row_gives z c (l ∙ f) h
+        ∙ sym (dot-unit_vector n c z (omega arith)) ∙ dot_comm (unit_vector n c) z)
+
+    pub is_inverse : IsInverse n M N
+    is_inverse = record {
+      rows = rows.height;
+      columns = All-from_recursion (λ r. length r ≡ n) N (each_row (λ r. length r ≡ n) N (λ c h. row_width c (subst (λ t. c < t) rows.height h)));
+      product = same_by_rows (map (λ r. combine n r M) N) (unit_matrix n)
+          (length-mapped (λ r. combine n r M) N ∙ rows.height ∙ sym (length-unit_rows n 0 n))
+          (λ c h.
+          let g : c < length N = subst (λ t. c < t) (length-mapped (λ r. combine n r M) N) h in
+          let b : c < n = subst (λ t. c < t) rows.height g in
+          row_at-map (λ r. combine n r M) N c g ∙ row_product c b ∙ sym (row_at-unit_rows n 0 n c b ∙ ap (unit_vector n) (start_at c)));
+      back = inverse_back;
+      spans = inverse_spans;
+    }
+
+  -- ---- column c has none
+
+  module _ (c : ℕ) (within : c < n) (free : row_of_pivot c final ≡ None) where
+    abbrev others : List ℚ
+    others = solution_from n 0 c final
+
+    abbrev pub combination : List ℚ
+    combination = add_each (unit_vector n c) (scale (neg_ℚ one_ℚ) others)
+
+    length-others : length (scale (neg_ℚ one_ℚ) others) ≡ n
+    length-others = length-scale (neg_ℚ one_ℚ) others ∙ length-solution_from n 0 c final
+
+    same : length (unit_vector n c) ≡ length (scale (neg_ℚ one_ℚ) others)
+    same = length-unit_vector n c ∙ sym length-others
+
+    -- a row gives its own entry at column c of the others
+    gives : (l : Line) → Shaped w n final l → dot (take n l.entries) others ≡ entry l.entries c
+    gives l s = by l.pivot refl
+      where
+        by : (o : Option ℕ) → l.pivot ≡ o → dot (take n l.entries) others ≡ entry l.entries c
+        by None p = ap (λ u. dot u others) (unused_front w n final l n_within s p) ∙ dot-zeros_left n others ∙ sym (s.cleared p c within)
+        by (Some k) p = used_row_holds w n c final l k s p
+
+    row_nothing : (l : Line) → Shaped w n final l → dot (take n l.entries) combination ≡ zero_ℚ
+    row_nothing l s =
+        let u = take n l.entries in
+        let f : length u ≡ n = length-front n l.entries (let t = s.width in omega arith) in
+        dot-add_right u (unit_vector n c) (scale (neg_ℚ one_ℚ) others) same
+        ∙ ap (λ t. t +ℚ dot u (scale (neg_ℚ one_ℚ) others)) (dot_comm u (unit_vector n c) ∙ dot-unit_vector n c u (omega arith) ∙ entry-take n l.entries c within)
+        ∙ ap (λ t. entry l.entries c +ℚ t) (dot-scale_right u (neg_ℚ one_ℚ) others ∙ ap (λ t. neg_ℚ one_ℚ *ℚ t) (gives l s))
+        ∙ ring rationals (entry l.entries c ∷ []) (λ x. x ⊕ minus (lit 1) ⊗ x ≐ lit 0) refl
+
+    at_column : entry combination c ≡ one_ℚ
+    at_column =
+        entry-add_each (unit_vector n c) (scale (neg_ℚ one_ℚ) others) c same
+        ∙ ap (λ t. t +ℚ entry (scale (neg_ℚ one_ℚ) others) c) (entry-unit_vector_same n c within)
+        ∙ ap (λ t. one_ℚ +ℚ t) (entry-scale (neg_ℚ one_ℚ) others c ∙ ap (λ t. neg_ℚ one_ℚ *ℚ t) (entry-solution n c final c within ∙ ap (λ o. entry_in o c) free))
+        ∙ ring rationals [] (lit 1 ⊕ minus (lit 1) ⊗ lit 0 ≐ lit 1) refl
+
+    pub depends : Depends n M combination
+    depends = record {
+      size = length-add_each (unit_vector n c) (scale (neg_ℚ one_ℚ) others) same ∙ length-unit_vector n c;
+      combined = rows_span combination (zeros m)
+          (length-add_each (unit_vector n c) (scale (neg_ℚ one_ℚ) others) same ∙ length-unit_vector n c) (length-zeros m)
+          (each_weaker (Shaped w n final) (λ l. dot (take n l.entries) combination ≡ dot (drop n l.entries) (zeros m)) final
+          (λ l s. row_nothing l s ∙ sym (dot-zeros_right (drop n l.entries) m)) shapes);
+      nonzero = λ e. one_is_not_zero (sym at_column ∙ ap (λ u. entry u c) e ∙ entry-zeros n c);
+    }
+
+  pub inverse_or_depends : IsInverseOrDepends n M (inverse n M)
+  inverse_or_depends = by (inverse n M) refl
+    where
+      by : (o : Option (List (List ℚ))) → inverse n M ≡ o → IsInverseOrDepends n M o
+      by (Some N) e = is_inverse N e
+      by None e =
+          let t = missing n 0 n final e in
+          let free : row_of_pivot t.0 final ≡ None = ap (λ i. row_of_pivot i final) (sym (start_at t.0)) ∙ t.2 in
+          (combination t.0 t.1 free, depends t.0 t.1 free)
+
+-- what has an inverse has no dependent columns
+pub inverse_or_dependent : (n : ℕ) (M N : List (List ℚ)) (z : List ℚ) → IsInverse n M N → Depends n M z → ⊥
+inverse_or_dependent n M N z i d = d.nonzero (sym (i.back z d.size) ∙ ap (rows_dot N) d.combined ∙ rows_dot-zeros N (length M) ∙ ap zeros i.rows)
