@@ -22,6 +22,7 @@ use Rattle.exact_matrix.proofs.EliminationPivots.{Shaped, AreShaped, shaped, sha
 use Rattle.exact_matrix.proofs.EliminationVectors.{entry-take, length-front, length-back, length-unit_rows, width-unit_rows, rows_dot-unit, rows_dot-zeros, width-beside, itself_less, same_of_less}
 use Rattle.exact_matrix.proofs.EliminationSolved.{length-solution_from, entry-solution, used_row_holds, unused_front}
 use Rattle.exact_matrix.proofs.EliminationTailed as tailed
+use Rattle.exact_matrix.proofs.EliminationFree as free_columns
 
 -- ---- counting the used lines
 
@@ -200,9 +201,6 @@ each_row : (P : List ℚ → Type 0) (A : List (List ℚ)) → ((c : ℕ) → c 
 each_row P [] f = tt
 each_row P (a ∷ A) f = (f 0 (omega arith), each_row P A (λ c l. f (suc c) (omega arith)))
 
-one_is_not_zero : one_ℚ ≡ zero_ℚ → ⊥
-one_is_not_zero e = absurd (let bad : pos 1 ≡ pos 0 = sym (num-whole (pos 1)) ∙ ap (λ (q : ℚ). q.num) e ∙ num-whole (pos 0) in cc)
-
 start_at : (c : ℕ) → 0 + c ≡ c
 start_at c = omega arith
 
@@ -357,55 +355,6 @@ module _ (n : ℕ) (M : List (List ℚ)) (columns : HasColumns n M) (square : le
       spans = inverse_spans;
     }
 
-  -- ---- column c has none
-
-  module _ (c : ℕ) (within : c < n) (free : row_of_pivot c final ≡ None) where
-    abbrev others : List ℚ
-    others = solution_from n 0 c final
-
-    abbrev pub combination : List ℚ
-    combination = add_each (unit_vector n c) (scale (neg_ℚ one_ℚ) others)
-
-    length-others : length (scale (neg_ℚ one_ℚ) others) ≡ n
-    length-others = length-scale (neg_ℚ one_ℚ) others ∙ length-solution_from n 0 c final
-
-    same : length (unit_vector n c) ≡ length (scale (neg_ℚ one_ℚ) others)
-    same = length-unit_vector n c ∙ sym length-others
-
-    -- a row gives its own entry at column c of the others
-    gives : (l : Line) → Shaped w n final l → dot (take n l.entries) others ≡ entry l.entries c
-    gives l s = by l.pivot refl
-      where
-        by : (o : Option ℕ) → l.pivot ≡ o → dot (take n l.entries) others ≡ entry l.entries c
-        by None p = ap (λ u. dot u others) (unused_front w n final l n_within s p) ∙ dot-zeros_left n others ∙ sym (s.cleared p c within)
-        by (Some k) p = used_row_holds w n c final l k s p
-
-    row_nothing : (l : Line) → Shaped w n final l → dot (take n l.entries) combination ≡ zero_ℚ
-    row_nothing l s =
-        let u = take n l.entries in
-        let f : length u ≡ n = length-front n l.entries (let t = s.width in omega arith) in
-        dot-add_right u (unit_vector n c) (scale (neg_ℚ one_ℚ) others) same
-        ∙ ap (λ t. t +ℚ dot u (scale (neg_ℚ one_ℚ) others)) (dot_comm u (unit_vector n c) ∙ dot-unit_vector n c u (omega arith) ∙ entry-take n l.entries c within)
-        ∙ ap (λ t. entry l.entries c +ℚ t) (dot-scale_right u (neg_ℚ one_ℚ) others ∙ ap (λ t. neg_ℚ one_ℚ *ℚ t) (gives l s))
-        ∙ ring rationals (entry l.entries c ∷ []) (λ x. x ⊕ minus (lit 1) ⊗ x ≐ lit 0) refl
-
-    at_column : entry combination c ≡ one_ℚ
-    at_column =
-        entry-add_each (unit_vector n c) (scale (neg_ℚ one_ℚ) others) c same
-        ∙ ap (λ t. t +ℚ entry (scale (neg_ℚ one_ℚ) others) c) (entry-unit_vector_same n c within)
-        ∙ ap (λ t. one_ℚ +ℚ t) (entry-scale (neg_ℚ one_ℚ) others c ∙ ap (λ t. neg_ℚ one_ℚ *ℚ t) (entry-solution n c final c within ∙ ap (λ o. entry_in o c) free))
-        ∙ ring rationals [] (lit 1 ⊕ minus (lit 1) ⊗ lit 0 ≐ lit 1) refl
-
-    pub depends : Depends n M combination
-    depends = record {
-      size = length-add_each (unit_vector n c) (scale (neg_ℚ one_ℚ) others) same ∙ length-unit_vector n c;
-      combined = rows_span combination (zeros m)
-          (length-add_each (unit_vector n c) (scale (neg_ℚ one_ℚ) others) same ∙ length-unit_vector n c) (length-zeros m)
-          (each_weaker (Shaped w n final) (λ l. dot (take n l.entries) combination ≡ dot (drop n l.entries) (zeros m)) final
-          (λ l s. row_nothing l s ∙ sym (dot-zeros_right (drop n l.entries) m)) shapes);
-      nonzero = λ e. one_is_not_zero (sym at_column ∙ ap (λ u. entry u c) e ∙ entry-zeros n c);
-    }
-
   pub inverse_or_depends : IsInverseOrDepends n M (inverse n M)
   inverse_or_depends = by (inverse n M) refl
     where
@@ -414,7 +363,7 @@ module _ (n : ℕ) (M : List (List ℚ)) (columns : HasColumns n M) (square : le
       by None e =
           let t = missing n 0 n final e in
           let free : row_of_pivot t.0 final ≡ None = ap (λ i. row_of_pivot i final) (sym (start_at t.0)) ∙ t.2 in
-          (combination t.0 t.1 free, depends t.0 t.1 free)
+          free_columns.depends n m M I m_width i_width heights t.0 t.1 free
 
 -- what has an inverse has no dependent columns
 pub inverse_or_dependent : (n : ℕ) (M N : List (List ℚ)) (z : List ℚ) → IsInverse n M N → Depends n M z → ⊥

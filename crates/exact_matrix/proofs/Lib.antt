@@ -6,4 +6,5 @@ pub mod EliminationPivots
 pub mod EliminationVectors
 pub mod EliminationTailed
 pub mod EliminationSolved
+pub mod EliminationFree
 pub mod EliminationInverted
