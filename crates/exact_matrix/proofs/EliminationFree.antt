@@ -14,9 +14,9 @@ use Rattle.rational.proofs.Wholes.{num-whole}
 use Rattle.rational.proofs.Vectors.{length-zeros, length-scale, length-add_each, length-unit_vector, length-rows_dot, dot_comm, dot-zeros_left, dot-zeros_right, dot-scale_right, dot-add_right, dot-unit_vector, zeros_by_entries, entry-zeros, entry-scale, entry-add_each, entry-unit_vector_same}
 use Rattle.exact_matrix.specs.Elimination.{Line, used, is_pivot, pivot_row, eliminated}
 use Rattle.exact_matrix.specs.EliminationAnswers.{beside, right_beside, unit_matrix, solve_rows, lines_of, row_of_pivot, entry_in, solution_from, Solution, answer_by, solved}
-use Rattle.exact_matrix.specs.EliminationMeaning.{Depends, IsFree}
+use Rattle.exact_matrix.specs.EliminationMeaning.{Shaped, Depends, IsFree}
 use Rattle.exact_matrix.proofs.EliminationLines.{each_weaker}
-use Rattle.exact_matrix.proofs.EliminationPivots.{Shaped, AreShaped, shaped, line_of_pivot, other_column}
+use Rattle.exact_matrix.proofs.EliminationPivots.{AreShaped, shaped, line_of_pivot, other_column}
 use Rattle.exact_matrix.proofs.EliminationVectors.{entry-take, length-front, dot-one_place, rows_dot-zeros, width-beside, width-right_beside, length-right_beside, length-unit_rows, width-unit_rows}
 use Rattle.exact_matrix.proofs.EliminationSolved.{length-solution_from, entry-solution, used_row_holds, unused_front}
 use Rattle.exact_matrix.proofs.EliminationTailed as tailed

@@ -16,9 +16,9 @@ use Rattle.rational.proofs.Wholes.{num-whole}
 use Rattle.rational.proofs.Vectors.{length-zeros, length-scale, length-add_each, length-unit_vector, length-rows_dot, length-combine, dot_comm, dot-zeros_left, dot-zeros_right, dot-scale_right, dot-add_right, dot-unit_vector, same_by_dot, same_by_entries, transpose, entry-zeros, entry-scale, entry-add_each, entry-rows_dot, entry-unit_vector_same, entry-unit_vector_other}
 use Rattle.exact_matrix.specs.Elimination.{Line, unused, used, is_unused, is_pivot, pivot_row, divided, freed, step, eliminated}
 use Rattle.exact_matrix.specs.EliminationAnswers.{unit_rows, unit_matrix, beside, invert_rows, lines_of, row_of_pivot, entry_in, solution_from, part_then, inverse_from, inverse}
-use Rattle.exact_matrix.specs.EliminationMeaning.{Depends, IsInverse, IsInverseOrDepends}
+use Rattle.exact_matrix.specs.EliminationMeaning.{Shaped, Depends, IsInverse, IsInverseOrDepends}
 use Rattle.exact_matrix.proofs.EliminationLines.{bool_cases, each_both, each_weaker, each_parts, Found, found, by_pivot_row, step-none, stepped, eliminated_keeps_all}
-use Rattle.exact_matrix.proofs.EliminationPivots.{Shaped, AreShaped, shaped, shaped-step, shaped-first, none_yet, row_of_pivot-none, row_of_pivot-here, row_of_pivot-later, row_of_pivot-step, line_of_pivot, pivot-freed, mapped, other_column, differs, column_cases}
+use Rattle.exact_matrix.proofs.EliminationPivots.{AreShaped, shaped, shaped-step, shaped-first, none_yet, row_of_pivot-none, row_of_pivot-here, row_of_pivot-later, row_of_pivot-step, line_of_pivot, pivot-freed, mapped, other_column, differs, column_cases}
 use Rattle.exact_matrix.proofs.EliminationVectors.{entry-take, length-front, length-back, length-unit_rows, width-unit_rows, rows_dot-unit, rows_dot-zeros, width-beside, itself_less, same_of_less}
 use Rattle.exact_matrix.proofs.EliminationSolved.{length-solution_from, entry-solution, used_row_holds, unused_front}
 use Rattle.exact_matrix.proofs.EliminationTailed as tailed

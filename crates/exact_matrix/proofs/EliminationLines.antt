@@ -254,3 +254,8 @@ width-with_pivot w j ls row e h =
 pub width-lines_of : (w : ℕ) (rows : List (List ℚ)) → HasColumns w rows → HasWidth w (map unused rows)
 width-lines_of w [] h = tt
 width-lines_of w (row ∷ rows) h = (All-head (λ r. length r ≡ w) row rows h, width-lines_of w rows (All-tail (λ r. length r ≡ w) row rows h))
+
+-- what holds of each line for each value
+pub each_all : {A X : Type 0} (P : A → X → Type 0) (xs : List X) → ((a : A) → AllByRecursion (P a) xs) → AllByRecursion (λ x. (a : A) → P a x) xs
+each_all P [] f = tt
+each_all P (x ∷ xs) f = (λ a. (f a).0, each_all P xs (λ a. (f a).1))

@@ -14,6 +14,7 @@ use Rattle.rational.proofs.Field.{rationals, mul-reciprocal}
 use Rattle.rational.proofs.Vectors.{entry-add_each, entry-scale, length-scale}
 use Rattle.exact_matrix.specs.Elimination.{Line, unused, used, is_unused, is_pivot, may_pivot, pivot_row, divided, freed, step, eliminated}
 use Rattle.exact_matrix.specs.EliminationAnswers.{row_of_pivot}
+use Rattle.exact_matrix.specs.EliminationMeaning.{Shaped}
 use Rattle.exact_matrix.proofs.EliminationLines.{bool_cases, each_weaker, each_parts, step_each, Found, found, step-none, stepped, by_pivot_row, freed-pivot, freed-other, freed-used, eliminated_keeps_all, length-divided, length-freed}
 
 -- ---- tests
@@ -126,15 +127,7 @@ line_of_pivot P c (l ∷ ls) row e h = bool_cases (is_pivot c l.pivot)
     (λ t. subst P (used_line c l t ∙ ap (used c) (some_row l.entries row (sym (row_of_pivot-here c l ls t) ∙ e))) h.0)
     (λ t. line_of_pivot P c ls row (sym (row_of_pivot-later c l ls t) ∙ e) h.1)
 
--- ---- the shape of a line among the lines ls after the columns before j
-
-pub record Shaped (w j : ℕ) (ls : List Line) (l : Line) : Type 0 where
-  pub width : length l.entries ≡ w
-  pub below : (k : ℕ) → l.pivot ≡ Some k → k < j
-  pub one : (k : ℕ) → l.pivot ≡ Some k → entry l.entries k ≡ one_ℚ
-  pub own : (k : ℕ) → l.pivot ≡ Some k → row_of_pivot k ls ≡ Some l.entries
-  pub cleared : l.pivot ≡ None → (c : ℕ) → c < j → entry l.entries c ≡ zero_ℚ
-  pub other : (c : ℕ) (row : List ℚ) → row_of_pivot c ls ≡ Some row → is_pivot c l.pivot ≡ false → entry l.entries c ≡ zero_ℚ
+-- ---- the shape of the lines
 
 abbrev pub AreShaped : ℕ → ℕ → List Line → Type 0
 AreShaped w j ls = AllByRecursion (Shaped w j ls) ls

@@ -15,9 +15,9 @@ use Rattle.rational.proofs.Order.{ordered_rationals}
 use Rattle.rational.proofs.Vectors.{length-zeros, length-scale, length-rows_dot, length-combine, dot_comm, dot-zeros_left, dot-zeros_right, dot-scale_right, same_by_dot, zeros_by_entries, transpose, entry-zeros}
 use Rattle.exact_matrix.specs.Elimination.{Line, unused, is_unused, is_pivot, may_pivot, pivot_row, eliminated}
 use Rattle.exact_matrix.specs.EliminationAnswers.{right_beside, unit_matrix, beside, solve_rows, lines_of, row_of_pivot, entry_in, solution_from, Answer, Solution, Refutation, answer_by, answer_of, solved}
-use Rattle.exact_matrix.specs.EliminationMeaning.{Solves, Refutes, IsRight}
-use Rattle.exact_matrix.proofs.EliminationLines.{each_both, each_weaker, each_parts, Found, found, not_found, HasWidth}
-use Rattle.exact_matrix.proofs.EliminationPivots.{Shaped, AreShaped, shaped, other_column, differs, column_cases}
+use Rattle.exact_matrix.specs.EliminationMeaning.{Shaped, IsCombined, Solves, Refutes, IsRight}
+use Rattle.exact_matrix.proofs.EliminationLines.{each_both, each_weaker, each_parts, each_all, Found, found, not_found, HasWidth}
+use Rattle.exact_matrix.proofs.EliminationPivots.{AreShaped, shaped, other_column, differs, column_cases}
 use Rattle.exact_matrix.proofs.EliminationVectors.{entry-take, length-front, length-back, drop-entry, dot-one_place, length-unit_rows, width-unit_rows, rows_dot-unit, length-right_beside, width-right_beside, rows_dot-right_beside, width-beside, zero_and_less, one_less_one, same_of_difference, rows_dot-zeros}
 use Rattle.exact_matrix.proofs.EliminationTailed as tailed
 
@@ -177,6 +177,32 @@ module _ (n : ℕ) (M : List (List ℚ)) (r : List ℚ) (columns : HasColumns n 
       less_is d x b u g f h =
           prove ordered_rationals (x ∷ b ∷ []) (λ x b. x ≐ b ⇐ given (lit 0 ⊕ (x ⊗ lit 1 ⊕ minus (lit 1) ⊗ b) ≐ lit 0)) refl
           (ap (λ t. t +ℚ (x *ℚ one_ℚ +ℚ neg_ℚ one_ℚ *ℚ b)) (sym g) ∙ ap (λ t. d +ℚ (x *ℚ one_ℚ +ℚ t)) (sym f) ∙ h)
+
+  -- each row is its own combination
+  pub rows_combined : AllByRecursion (λ l. IsCombined n M r l.entries) final
+  rows_combined =
+      each_weaker (λ l. (Shaped w n final l × (entry l.entries n ≡ dot (drop (suc n) l.entries) r)) × ((z : List ℚ) → length z ≡ n → dot (take n l.entries) z ≡ dot (drop (suc n) l.entries) (rows_dot M z)))
+      (λ l. IsCombined n M r l.entries) final (λ l t. combined l t.0.0 t.0.1 t.1)
+      (each_both (λ l. Shaped w n final l × (entry l.entries n ≡ dot (drop (suc n) l.entries) r)) (λ l. (z : List ℚ) → length z ≡ n → dot (take n l.entries) z ≡ dot (drop (suc n) l.entries) (rows_dot M z)) final
+      (each_both (Shaped w n final) (λ l. entry l.entries n ≡ dot (drop (suc n) l.entries) r) final shapes right_is)
+      (each_weaker (λ l. (z : (z : List ℚ) × (length z ≡ n)) → dot (take n l.entries) z.0 ≡ dot (drop (suc n) l.entries) (rows_dot M z.0)) (λ l. (z : List ℚ) → length z ≡ n → dot (take n l.entries) z ≡ dot (drop (suc n) l.entries) (rows_dot M z)) final
+      (λ l f z e. f (z, e))
+      (each_all (λ (z : (z : List ℚ) × (length z ≡ n)) l. dot (take n l.entries) z.0 ≡ dot (drop (suc n) l.entries) (rows_dot M z.0)) final (λ z. front_is z.0 z.1))))
+    where
+      at : (n m : ℕ) → n + suc m ≡ suc n + m
+      at n m = omega arith
+
+      combined : (l : Line) → Shaped w n final l → entry l.entries n ≡ dot (drop (suc n) l.entries) r
+          → ((z : List ℚ) → length z ≡ n → dot (take n l.entries) z ≡ dot (drop (suc n) l.entries) (rows_dot M z)) → IsCombined n M r l.entries
+      combined l s e f =
+          let y = drop (suc n) l.entries in
+          let g : length (take n l.entries) ≡ n = length-front n l.entries (let t = s.width in omega arith) in
+          record {
+            size = length-back (suc n) l.entries m (s.width ∙ at n (length M));
+            front = same_by_dot (take n l.entries) (combine n y M) (g ∙ sym (length-combine n y M columns)) (λ z k.
+              dot_comm z (take n l.entries) ∙ f z (k ∙ g) ∙ transpose n y M z columns ∙ dot_comm (combine n y M) z);
+            right = e;
+          }
 
   -- what solves each row solves M z = r
   pub rows_solve : (z : List ℚ) → length z ≡ n → AllByRecursion (λ l. dot (take n l.entries) z ≡ entry l.entries n) final → rows_dot M z ≡ r

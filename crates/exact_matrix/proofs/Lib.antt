@@ -8,3 +8,4 @@ pub mod EliminationTailed
 pub mod EliminationSolved
 pub mod EliminationFree
 pub mod EliminationInverted
+pub mod EliminationFacts

@@ -1,10 +1,31 @@
 -- What the answers of an elimination say of a matrix M with n columns.
-use Rattle.std.specs.Prelude.{◌≡◌, ℕ, ◌<◌, List, length, map, Option, Some, None}
-use Rattle.rational.specs.Rational.{ℚ, zero_ℚ}
+use Rattle.std.specs.Prelude.{◌≡◌, ℕ, suc, ◌<◌, List, length, map, take, drop, Option, Some, None, false}
+use Rattle.rational.specs.Rational.{ℚ, zero_ℚ, one_ℚ}
 use Rattle.rational.specs.Sums.{entry}
 use Rattle.rational.specs.Vectors.{dot, zeros, rows_dot, combine, HasColumns}
-use Rattle.exact_matrix.specs.Elimination.{eliminated}
+use Rattle.exact_matrix.specs.Elimination.{Line, is_pivot, eliminated}
 use Rattle.exact_matrix.specs.EliminationAnswers.{Answer, Solution, Refutation, lines_of, solve_rows, row_of_pivot, unit_matrix}
+
+-- a line among the lines ls after the elimination of the columns before j
+pub record Shaped (w j : ℕ) (ls : List Line) (l : Line) : Type 0 where
+  -- the row has w entries
+  pub width : length l.entries ≡ w
+  -- its pivot is in an eliminated column, and is 1
+  pub below : (k : ℕ) → l.pivot ≡ Some k → k < j
+  pub one : (k : ℕ) → l.pivot ≡ Some k → entry l.entries k ≡ one_ℚ
+  -- and it alone has a pivot there
+  pub own : (k : ℕ) → l.pivot ≡ Some k → row_of_pivot k ls ≡ Some l.entries
+  -- a row that is not used is 0 in each eliminated column
+  pub cleared : l.pivot ≡ None → (c : ℕ) → c < j → entry l.entries c ≡ zero_ℚ
+  -- and in the column of a pivot each other row is 0
+  pub other : (c : ℕ) (row : List ℚ) → row_of_pivot c ls ≡ Some row → is_pivot c l.pivot ≡ false → entry l.entries c ≡ zero_ℚ
+
+-- the row of a line of [M | r | I]: its part at M and its entry of r are combined from the rows of M and the entries of r, by its part
+-- under the unit matrix
+pub record IsCombined (n : ℕ) (M : List (List ℚ)) (r row : List ℚ) : Type 0 where
+  pub size : length (drop (suc n) row) ≡ length M
+  pub front : take n row ≡ combine n (drop (suc n) row) M
+  pub right : entry row n ≡ dot (drop (suc n) row) r
 
 -- z is a solution of M z = r
 pub record Solves (n : ℕ) (M : List (List ℚ)) (r z : List ℚ) : Type 0 where
