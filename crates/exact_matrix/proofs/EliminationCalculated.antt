@@ -98,11 +98,11 @@ divide_more : (top : ℕ) (q x : ℚ) → same_fields x zero_ℚ ≡ false → d
 unfolding divide_step
 divide_more top q x h = rw h
 
-division_ops-zero : (q x : ℚ) (row : List ℚ) → same_fields x zero_ℚ ≡ true → division_ops q (x ∷ row) ≡ division_ops q row
+pub division_ops-zero : (q x : ℚ) (row : List ℚ) → same_fields x zero_ℚ ≡ true → division_ops q (x ∷ row) ≡ division_ops q row
 unfolding division_ops
 division_ops-zero q x row h = rw h
 
-division_ops-more : (q x : ℚ) (row : List ℚ) → same_fields x zero_ℚ ≡ false → division_ops q (x ∷ row) ≡ (operation Div x q ∷ []) ++ division_ops q row
+pub division_ops-more : (q x : ℚ) (row : List ℚ) → same_fields x zero_ℚ ≡ false → division_ops q (x ∷ row) ≡ (operation Div x q ∷ []) ++ division_ops q row
 unfolding division_ops
 division_ops-more q x row h = rw h
 
@@ -127,7 +127,7 @@ divided_in-more : (top : ℕ) (q x : ℚ) (row : List ℚ) → divided_in top q 
 unfolding divided_in
 divided_in-more top q x row = refl
 
-division_ops-end : (q : ℚ) → division_ops q [] ≡ []
+pub division_ops-end : (q : ℚ) → division_ops q [] ≡ []
 unfolding division_ops
 division_ops-end q = refl
 
@@ -148,15 +148,15 @@ divided_in-is top q (x ∷ row) =
 
 -- ---- a row less a multiple of another
 
-less_ops-end : (f : ℚ) (ps : List ℚ) → less_ops f [] ps ≡ []
+pub less_ops-end : (f : ℚ) (ps : List ℚ) → less_ops f [] ps ≡ []
 unfolding less_ops
 less_ops-end f ps = refl
 
-less_ops-zero : (f x p : ℚ) (xs ps : List ℚ) → same_fields p zero_ℚ ≡ true → less_ops f (x ∷ xs) (p ∷ ps) ≡ less_ops f xs ps
+pub less_ops-zero : (f x p : ℚ) (xs ps : List ℚ) → same_fields p zero_ℚ ≡ true → less_ops f (x ∷ xs) (p ∷ ps) ≡ less_ops f xs ps
 unfolding less_ops
 less_ops-zero f x p xs ps h = rw h
 
-less_ops-more : (f x p : ℚ) (xs ps : List ℚ) → same_fields p zero_ℚ ≡ false → less_ops f (x ∷ xs) (p ∷ ps) ≡ (operation Mul f p ∷ operation Sub x (f *ℚ p) ∷ []) ++ less_ops f xs ps
+pub less_ops-more : (f x p : ℚ) (xs ps : List ℚ) → same_fields p zero_ℚ ≡ false → less_ops f (x ∷ xs) (p ∷ ps) ≡ (operation Mul f p ∷ operation Sub x (f *ℚ p) ∷ []) ++ less_ops f xs ps
 unfolding less_ops
 less_ops-more f x p xs ps h = rw h
 
@@ -206,11 +206,11 @@ freed_in-changes : (top j : ℕ) (p : List ℚ) (l : Line) → (is_pivot j l.piv
 unfolding freed_in
 freed_in-changes top j p l h = rw h
 
-freed_ops-stays : (j : ℕ) (p : List ℚ) (l : Line) → (is_pivot j l.pivot || same_fields (entry l.entries j) zero_ℚ) ≡ true → freed_ops j p l ≡ []
+pub freed_ops-stays : (j : ℕ) (p : List ℚ) (l : Line) → (is_pivot j l.pivot || same_fields (entry l.entries j) zero_ℚ) ≡ true → freed_ops j p l ≡ []
 unfolding freed_ops
 freed_ops-stays j p l h = rw h
 
-freed_ops-changes : (j : ℕ) (p : List ℚ) (l : Line) → (is_pivot j l.pivot || same_fields (entry l.entries j) zero_ℚ) ≡ false
+pub freed_ops-changes : (j : ℕ) (p : List ℚ) (l : Line) → (is_pivot j l.pivot || same_fields (entry l.entries j) zero_ℚ) ≡ false
     → freed_ops j p l ≡ less_ops (entry l.entries j) l.entries p
 unfolding freed_ops
 freed_ops-changes j p l h = rw h
@@ -268,11 +268,11 @@ each_freed_in-more : (top j : ℕ) (p : List ℚ) (l : Line) (ls : List Line) �
 unfolding each_freed_in
 each_freed_in-more top j p l ls = refl
 
-each_freed_ops-end : (j : ℕ) (p : List ℚ) → each_freed_ops j p [] ≡ []
+pub each_freed_ops-end : (j : ℕ) (p : List ℚ) → each_freed_ops j p [] ≡ []
 unfolding each_freed_ops
 each_freed_ops-end j p = refl
 
-each_freed_ops-more : (j : ℕ) (p : List ℚ) (l : Line) (ls : List Line) → each_freed_ops j p (l ∷ ls) ≡ freed_ops j p l ++ each_freed_ops j p ls
+pub each_freed_ops-more : (j : ℕ) (p : List ℚ) (l : Line) (ls : List Line) → each_freed_ops j p (l ∷ ls) ≡ freed_ops j p l ++ each_freed_ops j p ls
 unfolding each_freed_ops
 each_freed_ops-more j p l ls = refl
 

@@ -9,3 +9,4 @@ pub mod EliminationSolved
 pub mod EliminationFree
 pub mod EliminationInverted
 pub mod EliminationFacts
+pub mod EliminationWithout

@@ -3,3 +3,4 @@ pub mod EliminationAnswers
 pub mod EliminationOperations
 pub mod EliminationCalculation
 pub mod EliminationMeaning
+pub mod EliminationTails

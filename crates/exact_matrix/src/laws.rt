@@ -1,17 +1,18 @@
 //! The laws of the elimination. Each is the contract of a function that does nothing.
 
 ghost use Rattle.exact_matrix.specs.Elimination.{eliminated};
-ghost use Rattle.exact_matrix.specs.EliminationAnswers.{Solution, inverse, lines_of, solve_rows, solved};
+ghost use Rattle.exact_matrix.specs.EliminationAnswers.{Solution, inverse, invert_rows, lines_of, solve_rows, solved};
 ghost use Rattle.exact_matrix.specs.EliminationCalculation.{eliminated_in, ended};
 ghost use Rattle.exact_matrix.specs.EliminationMeaning.{Depends, IsCombined, IsFree, IsInverse, IsInverseOrDepends, IsRight, Refutes, Shaped, Solves};
 ghost use Rattle.exact_matrix.specs.EliminationOperations.{elimination_ops, first_past};
+ghost use Rattle.exact_matrix.specs.EliminationTails.{line_without, without};
 ghost use Rattle.frac_core.specs.Calculated.{exact_of};
 ghost use Rattle.frac_core.specs.declared.fractions.Refused.{Refused};
 ghost use Rattle.rational.specs.Rational.{ℚ, zero_ℚ, Fits};
 ghost use Rattle.rational.specs.Sums.{entry};
 ghost use Rattle.rational.specs.Vectors.{HasColumns, dot, rows_dot, zeros};
 ghost use Rattle.std.specs.List.{All, Contains};
-ghost use Rattle.std.specs.Prelude.{◌≡◌, ◌<◌, ◌↔◌, ℕ, List, length, None, Some};
+ghost use Rattle.std.specs.Prelude.{◌≡◌, ◌<◌, ◌≤◌, ◌↔◌, ℕ, List, length, map, None, Some};
 
 /// The calculation ends with the first operation of the list whose result has a part above the
 /// greatest, and with the exact lines where there is none.
@@ -54,4 +55,14 @@ pub fn pivot_columns_are_independent()
     ensures independent { (n : ℕ) (M : List (List ℚ)) (r : List ℚ) → HasColumns n M → length r ≡ length M → (z : List ℚ) → length z ≡ n → rows_dot M z ≡ zeros (length M) → ((c : ℕ) → c < n → IsFree n M r c → entry z c ≡ zero_ℚ) → z ≡ zeros n }
     ensures dependent { (n : ℕ) (M : List (List ℚ)) (r : List ℚ) → HasColumns n M → length r ≡ length M → (c : ℕ) → c < n → IsFree n M r c → (z : List ℚ) × Depends n M z }
     ensures solution { (n : ℕ) (M : List (List ℚ)) (r z : List ℚ) → solved n M r ≡ Solution z → (c : ℕ) → c < n → IsFree n M r c → entry z c ≡ zero_ℚ }
+{}
+
+/// A column beside the eliminated ones acts on no other column: left out before or after, the lines
+/// are the same, and the operations are among those with that column. So the elimination of
+/// `[M | I]` is that of `[M | r | I]` without r.
+pub fn columns_beside_act_alone()
+    ensures lines { (n w i : ℕ) (rows : List (List ℚ)) → n ≤ i → HasColumns w rows → eliminated n (lines_of (map (without i) rows)) ≡ map (line_without i) (eliminated n (lines_of rows)) }
+    ensures operations { (n w i : ℕ) (rows : List (List ℚ)) (r : Refused) → n ≤ i → HasColumns w rows → Contains (elimination_ops n (lines_of (map (without i) rows))) r → Contains (elimination_ops n (lines_of rows)) r }
+    ensures invert_lines { (n : ℕ) (M : List (List ℚ)) (r : List ℚ) → HasColumns n M → length r ≡ length M → eliminated n (lines_of (invert_rows M)) ≡ map (line_without n) (eliminated n (lines_of (solve_rows M r))) }
+    ensures invert_operations { (n : ℕ) (M : List (List ℚ)) (r : List ℚ) (op : Refused) → HasColumns n M → length r ≡ length M → Contains (elimination_ops n (lines_of (invert_rows M))) op → Contains (elimination_ops n (lines_of (solve_rows M r))) op }
 {}
