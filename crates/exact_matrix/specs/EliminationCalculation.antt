@@ -17,6 +17,11 @@ abbrev pub then_with : {A B : Type 0} → Result A Refused → (A → Result B R
 then_with (Ok x) f = f x
 then_with (Err r) f = Err r
 
+-- the first refusal, and else this value
+abbrev pub ended : {A : Type 0} → Option Refused → A → Result A Refused
+ended None x = Ok x
+ended (Some r) x = Err r
+
 -- one entry divided by q: nothing where it is 0
 unfoldable pub divide_step : ℕ → ℚ → ℚ → Tried
 divide_step top q x = if same_fields x zero_ℚ then Is x else tried_in top Div x q

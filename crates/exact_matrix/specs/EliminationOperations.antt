@@ -2,17 +2,23 @@
 -- by the pivot; and then for each other row whose factor, its entry in this column, is not 0, and for each place where the pivot
 -- row is not 0: the factor times the entry p of the pivot row there, and the row's entry less that product.
 use Rattle.std.specs.Prelude.{ℕ, zero, suc, List, [], ◌∷◌, ◌++◌, Option, Some, None, ◌||◌, if◌then◌else◌}
-use Rattle.rational.specs.Rational.{ℚ, zero_ℚ, ◌*ℚ◌}
+use Rattle.rational.specs.Rational.{ℚ, zero_ℚ, ◌*ℚ◌, fits}
 use Rattle.rational.specs.Order.{same_fields}
 use Rattle.rational.specs.Sums.{entry}
 use Rattle.frac_core.specs.declared.fractions.Op.{Op}
 use Rattle.frac_core.specs.declared.fractions.Op.TheVariants.{Sub, Mul, Div}
 use Rattle.frac_core.specs.declared.fractions.Refused.{Refused}
+use Rattle.frac_core.specs.Calculated.{exact_of}
 use Rattle.exact_matrix.specs.Elimination.{Line, is_pivot, pivot_row, with_pivot, divided, step}
 
 -- an operation and its operands
 abbrev pub operation : Op → ℚ → ℚ → Refused
 operation op p q = record { op = op; left = p; right = q }
+
+-- the first operation whose result has a part above top
+unfoldable pub first_past : ℕ → List Refused → Option Refused
+first_past top [] = None
+first_past top (r ∷ rs) = if fits top (exact_of r.op r.left r.right) then first_past top rs else Some r
 
 -- the entries of a row divided by q
 unfoldable pub division_ops : ℚ → List ℚ → List Refused
