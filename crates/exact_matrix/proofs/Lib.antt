@@ -2,7 +2,7 @@ pub mod Grids
 pub mod WorkedElimination
 pub mod Passes
 pub mod States
-pub mod Systems
+pub mod Assembled
 pub mod EliminationLines
 pub mod EliminationCalculated
 pub mod EliminationKernel

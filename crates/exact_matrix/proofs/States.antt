@@ -127,7 +127,7 @@ pivot_found v j ps m i p h k e n =
       within = k;
       row = n.rest ∙ here_row j (state v ps m) i _ g e;
       placed = λ q. n.placed q ∙ here_placed j q (state v ps m) i _ g e;
-      nonzero = num-ne_of_test (entry (map v (row_at m i)) j) (unused_here p (same_fields (entry (map v (row_at m i)) j) zero_ℚ) e)
+      nonzero = num-ne_of_test (entry (map v (row_at m i)) j) (unused_here p (same_fields (entry (map v (row_at m i)) j) zero_ℚ) e);
     }
 
 -- the test as the program makes it

@@ -21,5 +21,5 @@ pub returns-clause-lines : goal.returns-clause-lines
 returns-clause-lines g c =
     let v = g.F.ExactField.value in
     let e = cleared_by_copy v (unsigned_abs g.F.ExactField.TOP) c.args.j c.args.pivots.now c.set.new.self c.args.rows.now c.divide.new.self c.args.i (v c.at-pivot.result) c.copy_from_slice.new.self c.row.result.now
-        c.requires.pivot (entry_read v (row_at c.args.rows.now c.args.i) c.args.j c.at-pivot.result c.at-pivot.ensures) c.in_ok-divide.ensures.row c.divide.ensures.rest c.set.ensures c.copy_from_slice.ensures.after c.row.ensures.value in
+    c.requires.pivot (entry_read v (row_at c.args.rows.now c.args.i) c.args.j c.at-pivot.result c.at-pivot.ensures) c.in_ok-divide.ensures.row c.divide.ensures.rest c.set.ensures c.copy_from_slice.ensures.after c.row.ensures.value in
     subst (λ (r : Result (List Line) Refused). IsLines c.free_rows.result (state v c.set.new.self c.free_rows.new.rows) r) (sym e) c.free_rows.ensures.lines

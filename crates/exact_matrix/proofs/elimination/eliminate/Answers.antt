@@ -12,10 +12,12 @@ returns-clause-lines g c =
 pub loop-j-preserved : goal.loop-j-preserved
 loop-j-preserved g c =
     let v = g.F.ExactField.value in
-    let s = c.loop-j.invariant.0 in let t = c.step.ensures.shape in
-    (record { columns = t.columns ∙ s.columns; rows = t.rows ∙ s.rows }, c.step.ensures.pivots ∙ c.loop-j.invariant.1,
-        columns_more (unsigned_abs g.F.ExactField.TOP) c.args.n c.loop-j.j (state v c.loop-j.pivots c.loop-j.rows) (state v c.step.new.pivots c.step.new.rows) (omega arith) c.in_ok-step.ensures.lines
-        ∙ c.loop-j.invariant.2)
+    let s = c.loop-j.invariant.0 in let t = c.step.ensures.shape in (
+      record { columns = t.columns ∙ s.columns; rows = t.rows ∙ s.rows },
+      c.step.ensures.pivots ∙ c.loop-j.invariant.1,
+      columns_more (unsigned_abs g.F.ExactField.TOP) c.args.n c.loop-j.j (state v c.loop-j.pivots c.loop-j.rows) (state v c.step.new.pivots c.step.new.rows) (omega arith) c.in_ok-step.ensures.lines
+          ∙ c.loop-j.invariant.2,
+    )
 
 pub returns-in_err-step-clause-lines : goal.returns-in_err-step-clause-lines
 returns-in_err-step-clause-lines g c =

@@ -28,7 +28,7 @@ returns-clause-line g c =
     let row = map v (row_at c.args.rows.now c.args.i) in
     let e = entry_read v (row_at c.args.rows.now c.args.i) c.args.j c.at-factor.result c.at-factor.ensures in
     let f = freed_more top c.args.j (map v c.args.p.now) (record { pivot = c.args.pivot; entries = row }) (sym c.is_pivot.ensures ∙ c.if-is_pivot.false)
-        (ap (λ x. same_fields x zero_ℚ) e ∙ sym c.is_zero.ensures ∙ c.if-is_zero.false)
-        ∙ ap (λ (x : ℚ). with_entries c.args.pivot (row_less top x row (map v c.args.p.now))) e in
+    (ap (λ x. same_fields x zero_ℚ) e ∙ sym c.is_zero.ensures ∙ c.if-is_zero.false)
+    ∙ ap (λ (x : ℚ). with_entries c.args.pivot (row_less top x row (map v c.args.p.now))) e in
     subst (λ (r : Result Line Refused). IsLine c.take_times.result (record { pivot = c.args.pivot; entries = map v (row_at c.take_times.new.self c.args.i) }) r) (sym f)
     (taken_line v c.take_times.result c.args.pivot (row_at c.take_times.new.self c.args.i) _ c.take_times.ensures.row)

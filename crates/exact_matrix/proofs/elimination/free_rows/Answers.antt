@@ -19,11 +19,12 @@ pub loop-i-preserved : goal.loop-i-preserved
 loop-i-preserved g c =
     let v = g.F.ExactField.value in
     let s = c.loop-i.invariant.0 in
-    let t = with_row_shape c.loop-i.rows c.free_row.new.rows c.loop-i.i _ c.free_row.ensures.rest in
-    (record { columns = t.columns ∙ s.columns; rows = t.rows ∙ s.rows },
-        row_freed v (unsigned_abs g.F.ExactField.TOP) c.args.j (map v c.args.p.now) c.args.pivots.now c.loop-i.rows c.free_row.new.rows c.loop-i.i c.at.result
-        (c.requires.rows ∙ sym s.rows) (omega (arith, s.rows)) c.at.ensures c.in_ok-free_row.ensures.line c.free_row.ensures.rest
-        ∙ c.loop-i.invariant.1)
+    let t = with_row_shape c.loop-i.rows c.free_row.new.rows c.loop-i.i _ c.free_row.ensures.rest in (
+      record { columns = t.columns ∙ s.columns; rows = t.rows ∙ s.rows },
+      row_freed v (unsigned_abs g.F.ExactField.TOP) c.args.j (map v c.args.p.now) c.args.pivots.now c.loop-i.rows c.free_row.new.rows c.loop-i.i c.at.result
+          (c.requires.rows ∙ sym s.rows) (omega (arith, s.rows)) c.at.ensures c.in_ok-free_row.ensures.line c.free_row.ensures.rest
+          ∙ c.loop-i.invariant.1,
+    )
 
 pub returns-in_err-free_row-clause-lines : goal.returns-in_err-free_row-clause-lines
 returns-in_err-free_row-clause-lines g c =

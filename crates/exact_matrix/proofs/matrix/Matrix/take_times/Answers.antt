@@ -36,7 +36,7 @@ written : (g : Over) (c : After-self-1 g) →
     record {
       columns = c.self.inside.columns;
       rows = rows_of c.self.inside.columns c.self.inside.rows
-        (with_items c.self.inside.entries (put_mid (c.args.i * c.self.inside.columns) ((c.args.i * c.self.inside.columns + c.self.inside.columns) - c.args.i * c.self.inside.columns) c.deref_mut.result.now c.take_times.new.row)).items
+          (with_items c.self.inside.entries (put_mid (c.args.i * c.self.inside.columns) ((c.args.i * c.self.inside.columns + c.self.inside.columns) - c.args.i * c.self.inside.columns) c.deref_mut.result.now c.take_times.new.row)).items;
     } ≡ with_row c.args.self.now c.args.i c.take_times.new.row
 written g c =
     vec_written c.self.inside.entries c.self.inside.columns c.self.inside.rows c.deref_mut.result.now c.take_times.new.row c.args.self.now c.args.i c.self.view_is c.self.invariant c.requires.row c.deref_mut.ensures.value c.self.inside.entries.ok.0 c.take_times.auto.row

@@ -1,0 +1,1 @@
+-- Assembling and reading of rows.
