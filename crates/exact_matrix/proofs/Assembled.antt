@@ -1,9 +1,9 @@
 -- Rows that are assembled one after another, and rows of pivots that are read.
-use Rattle.std.proofs.Common.{◌≡◌, ◌≢◌, ℕ, Bool, true, false, zero, suc, ◌+◌, ◌-◌, ◌*◌, ◌≤◌, ◌<◌, Option, Some, None, List, [], ◌∷◌, ◌++◌, length, map, take, drop, get_or, slice_get, sym, ap, ◌∙◌, refl, arith, add-one, append_assoc}
+use Rattle.std.proofs.Common.{◌≡◌, ◌≢◌, ℕ, Bool, true, false, zero, suc, ◌+◌, ◌-◌, ◌*◌, ◌≤◌, ◌<◌, Option, Some, None, List, [], ◌∷◌, ◌++◌, length, map, take, drop, get_or, slice_get, sym, ap, ◌∙◌, refl, arith, add-one, append_assoc, subst}
 use Rattle.std.specs.Prelude.{if◌then◌else◌, ◌==◌}
-use Rattle.std.specs.Option.{option_map}
+use Rattle.std.specs.Option.{option_map, SomeIff}
 use Rattle.std.proofs.lemmas.List.{map-append, length-append, length-map, append-nil, take_more, take_at, drop_at, take_all, take-map, drop-map, map_push}
-use Rattle.std.proofs.lemmas.List.Elements.{recursion_from_All}
+use Rattle.std.proofs.lemmas.List.Elements.{recursion_from_All, All-from_recursion}
 use Rattle.std.proofs.lemmas.Option.{slice_get-map, get_or_from_slice_get}
 use Rattle.std.specs.List.{All, AllByRecursion}
 use Rattle.rational.specs.Rational.{ℚ, zero_ℚ, one_ℚ}
@@ -12,9 +12,11 @@ use Rattle.rational.specs.Vectors.{unit_vector, HasColumns}
 use Rattle.rational.proofs.Vectors.{length-unit_vector, entry-unit_vector_same, entry-unit_vector_other}
 use Rattle.exact_matrix.specs.Elimination.{Line, is_pivot}
 use Rattle.exact_matrix.specs.EliminationAnswers.{beside, right_beside, unit_rows, unit_matrix, solve_rows, invert_rows, row_of_pivot, entry_in, solution_from, inverse_from, part_then}
-use Rattle.exact_matrix.specs.Grid.{Grid, row_at, rows_of}
+use Rattle.exact_matrix.specs.Grid.{Grid, IsGrid, row_at, rows_of}
 use Rattle.exact_matrix.specs.State.{lines, state, values}
 use Rattle.exact_matrix.specs.Systems.{joined, IsPlaceOfPivot}
+use Rattle.exact_matrix.proofs.EliminationVectors.{length-unit_rows, width-unit_rows, length-right_beside, width-beside}
+use Rattle.exact_matrix.proofs.EliminationWithout.{solve_rows_width}
 use Rattle.exact_matrix.proofs.EliminationPivots.{same_column, differs, column_cases, other_column}
 
 -- ---- a row of the unit matrix
@@ -229,3 +231,91 @@ pub inverse_all : {F : Type 0} (v : F → ℚ) (n j : ℕ) (ls : List Line) (xs 
 inverse_all v n j ls xs h s =
     let a : n - j ≡ 0 = omega arith in
     ap Some (sym (append-nil (map v xs))) ∙ ap (λ k. with_rest (map v xs) (inverse_from k j n ls)) (sym a) ∙ s
+
+-- ---- what the program pushes
+
+pub pushed_solve_row : {F : Type 0} (v : F → ℚ) (was row copy first second all : List F) (right : F) (n k i : ℕ) →
+    copy ≡ row → first ≡ was ++ copy → second ≡ first ++ right ∷ [] → k ≡ n → map v all ≡ map v second ++ unit_vector k i →
+    map v all ≡ map v was ++ (map v row ++ v right ∷ unit_vector n i)
+pushed_solve_row v was row copy first second all right n k i c f s e h =
+    solve_row v was row all right (unit_vector n i)
+    (h ∙ ap (λ t. map v t ++ unit_vector k i) (s ∙ ap (λ t. t ++ right ∷ []) (f ∙ ap (λ t. was ++ t) c)) ∙ ap (λ k. map v (was ++ row ++ right ∷ []) ++ unit_vector k i) e)
+
+pub pushed_invert_row : {F : Type 0} (v : F → ℚ) (was row copy first all : List F) (n k i : ℕ) →
+    copy ≡ row → first ≡ was ++ copy → k ≡ n → map v all ≡ map v first ++ unit_vector k i →
+    map v all ≡ map v was ++ (map v row ++ unit_vector n i)
+pushed_invert_row v was row copy first all n k i c f e h =
+    invert_row v was row all (unit_vector n i)
+    (h ∙ ap (λ t. map v t ++ unit_vector k i) (f ∙ ap (λ t. was ++ t) c) ∙ ap (λ k. map v (was ++ row) ++ unit_vector k i) e)
+
+-- a sum that is checked
+pub checked : (P : Type 0) (o : Option ℕ) (x w : ℕ) → SomeIff o P x → o ≡ Some w → w ≡ x
+checked P None x w h e = absurd cc
+checked P (Some k) x w h e = let s : k ≡ w = cc in sym s ∙ h.1
+
+length-beside : (M X : List (List ℚ)) → length X ≡ length M → length (beside M X) ≡ length M
+length-beside [] X h = refl
+length-beside (row ∷ M) [] h = absurd (omega arith)
+length-beside (row ∷ M) (x ∷ X) h = ap suc (length-beside M X (omega arith))
+
+pub length-solve_rows : (M : List (List ℚ)) (r : List ℚ) → length r ≡ length M → length (solve_rows M r) ≡ length M
+length-solve_rows M r h =
+    let u = length-unit_rows (length M) 0 (length M) in
+    length-beside M (right_beside r (unit_matrix (length M))) (length-right_beside r (unit_matrix (length M)) (h ∙ sym u) ∙ u)
+
+pub length-invert_rows : (M : List (List ℚ)) → length (invert_rows M) ≡ length M
+length-invert_rows M = length-beside M (unit_matrix (length M)) (length-unit_rows (length M) 0 (length M))
+
+pub invert_rows_width : (n : ℕ) (M : List (List ℚ)) → HasColumns n M → HasColumns (n + length M) (invert_rows M)
+invert_rows_width n M h =
+    All-from_recursion (λ row. length row ≡ n + length M) (invert_rows M) (width-beside n (length M) M (unit_matrix (length M)) (recursion_from_All (λ row. length row ≡ n) M h) (width-unit_rows (length M) 0 (length M)))
+
+-- the numbers of rows of one length
+pub values_width : {F : Type 0} (v : F → ℚ) (m : Grid F) → IsGrid m → HasColumns m.columns (values v m)
+values_width {F = F} v m h = All-from_recursion (λ row. length row ≡ m.columns) (values v m) (each m.rows (recursion_from_All (λ row. length row ≡ m.columns) m.rows h))
+  where
+    each : (rows : List (List F)) → AllByRecursion (λ row. length row ≡ m.columns) rows → AllByRecursion (λ row. length row ≡ m.columns) (map (map v) rows)
+    each [] h = tt
+    each (row ∷ rows) h = (length-map row v ∙ h.0, each rows h.1)
+
+pub values_length : {F : Type 0} (v : F → ℚ) (m : Grid F) → length (values v m) ≡ length m.rows
+values_length v m = length-map m.rows (map v)
+
+solve_done : {F : Type 0} (v : F → ℚ) (m : Grid F) (r xs : List F) (n w i : ℕ) →
+    IsGrid m → length r ≡ length m.rows → n ≡ length m.rows → w ≡ m.columns + (length m.rows + 1) → n ≤ i → map v xs ≡ joined (take i (solve_rows (values v m) (map v r))) →
+    (w ≡ m.columns + (length m.rows + 1)) × (length xs ≡ n * w) × (map (map v) (rows_of w n xs) ≡ solve_rows (values v m) (map v r))
+solve_done v m r xs n w i g l e f h k =
+    let rows = solve_rows (values v m) (map v r) in
+    let count : length rows ≡ n = length-solve_rows (values v m) (map v r) (length-map r v ∙ l ∙ sym (values_length v m)) ∙ values_length v m ∙ sym e in
+    let size : m.columns + suc (length (values v m)) ≡ w = omega (arith, values_length v m) in
+    let width : HasColumns w rows = subst (λ w. HasColumns w rows) size (solve_rows_width m.columns (values v m) (map v r) (values_width v m g)) in
+    let all : map v xs ≡ joined rows = joined_all rows i (map v xs) (rw count h) k in
+    (f, assembled_length v w n xs rows width count all, assembled v w n xs rows width count all)
+
+-- the system is assembled
+pub solve_assembled : {F : Type 0} (v : F → ℚ) (m : Grid F) (r xs : List F) (n c t w i : ℕ) (P Q : Type 0) (o p : Option ℕ) →
+    IsGrid m → length r ≡ length m.rows → n ≡ length m.rows → c ≡ m.columns → SomeIff o P (n + 1) → o ≡ Some t → SomeIff p Q (c + t) → p ≡ Some w →
+    n ≤ i → map v xs ≡ joined (take i (solve_rows (values v m) (map v r))) →
+    (w ≡ m.columns + (length m.rows + 1)) × (length xs ≡ n * w) × (map (map v) (rows_of w n xs) ≡ solve_rows (values v m) (map v r))
+solve_assembled v m r xs n c t w i P Q o p g l e f a b d k h s =
+    let x = checked P o (n + 1) t a b in let y = checked Q p (c + t) w d k in
+    solve_done v m r xs n w i g l e (omega (arith, x, y)) h s
+
+invert_done : {F : Type 0} (v : F → ℚ) (m : Grid F) (xs : List F) (n w i : ℕ) →
+    IsGrid m → n ≡ length m.rows → w ≡ m.columns + length m.rows → n ≤ i → map v xs ≡ joined (take i (invert_rows (values v m))) →
+    (w ≡ m.columns + length m.rows) × (length xs ≡ n * w) × (map (map v) (rows_of w n xs) ≡ invert_rows (values v m))
+invert_done v m xs n w i g e f h k =
+    let rows = invert_rows (values v m) in
+    let count : length rows ≡ n = length-invert_rows (values v m) ∙ values_length v m ∙ sym e in
+    let size : m.columns + length (values v m) ≡ w = omega (arith, values_length v m) in
+    let width : HasColumns w rows = subst (λ w. HasColumns w rows) size (invert_rows_width m.columns (values v m) (values_width v m g)) in
+    let all : map v xs ≡ joined rows = joined_all rows i (map v xs) (rw count h) k in
+    (f, assembled_length v w n xs rows width count all, assembled v w n xs rows width count all)
+
+pub invert_assembled : {F : Type 0} (v : F → ℚ) (m : Grid F) (xs : List F) (n c w i : ℕ) (P : Type 0) (o : Option ℕ) →
+    IsGrid m → n ≡ length m.rows → c ≡ m.columns → SomeIff o P (c + n) → o ≡ Some w →
+    n ≤ i → map v xs ≡ joined (take i (invert_rows (values v m))) →
+    (w ≡ m.columns + length m.rows) × (length xs ≡ n * w) × (map (map v) (rows_of w n xs) ≡ invert_rows (values v m))
+invert_assembled v m xs n c w i P o g e f a b h s =
+    let x = checked P o (c + n) w a b in
+    invert_done v m xs n w i g e (omega (arith, x)) h s
