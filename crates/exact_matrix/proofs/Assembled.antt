@@ -1,8 +1,8 @@
 -- Rows that are assembled one after another, and rows of pivots that are read.
-use Rattle.std.proofs.Common.{◌≡◌, ◌≢◌, ℕ, Bool, true, false, zero, suc, ◌+◌, ◌-◌, ◌*◌, ◌≤◌, ◌<◌, Option, Some, None, List, [], ◌∷◌, ◌++◌, length, map, take, drop, get_or, slice_get, sym, ap, ◌∙◌, refl, arith, add-one, append_assoc, subst}
+use Rattle.std.proofs.Common.{◌≡◌, ◌≢◌, ℕ, Bool, true, false, zero, suc, ◌+◌, ◌-◌, ◌*◌, ◌≤◌, ◌<◌, Option, Some, None, List, [], ◌∷◌, ◌++◌, length, map, take, drop, get_or, slice_get, replicate, sym, ap, ◌∙◌, refl, arith, add-one, append_assoc, subst}
 use Rattle.std.specs.Prelude.{if◌then◌else◌, ◌==◌}
 use Rattle.std.specs.Option.{option_map, SomeIff}
-use Rattle.std.proofs.lemmas.List.{map-append, length-append, length-map, append-nil, take_more, take_at, drop_at, take_all, take-map, drop-map, map_push}
+use Rattle.std.proofs.lemmas.List.{map-append, length-append, length-map, append-nil, take_more, take_at, drop_at, take_all, take_rest, take-map, drop-map, map_push}
 use Rattle.std.proofs.lemmas.List.Elements.{recursion_from_All, All-from_recursion}
 use Rattle.std.proofs.lemmas.Option.{slice_get-map, get_or_from_slice_get}
 use Rattle.std.specs.List.{All, AllByRecursion}
@@ -10,10 +10,10 @@ use Rattle.rational.specs.Rational.{ℚ, zero_ℚ, one_ℚ}
 use Rattle.rational.specs.Sums.{entry}
 use Rattle.rational.specs.Vectors.{unit_vector, HasColumns}
 use Rattle.rational.proofs.Vectors.{length-unit_vector, entry-unit_vector_same, entry-unit_vector_other}
-use Rattle.exact_matrix.specs.Elimination.{Line, is_pivot}
-use Rattle.exact_matrix.specs.EliminationAnswers.{beside, right_beside, unit_rows, unit_matrix, solve_rows, invert_rows, row_of_pivot, entry_in, solution_from, inverse_from, part_then}
+use Rattle.exact_matrix.specs.Elimination.{Line, is_pivot, pivot_row, unused}
+use Rattle.exact_matrix.specs.EliminationAnswers.{Solution, Refutation, answer_by, answer_of, lines_of, beside, right_beside, unit_rows, unit_matrix, solve_rows, invert_rows, row_of_pivot, entry_in, solution_from, inverse_from, part_then}
 use Rattle.exact_matrix.specs.Grid.{Grid, IsGrid, row_at, rows_of}
-use Rattle.exact_matrix.specs.State.{lines, state, values}
+use Rattle.exact_matrix.specs.State.{lines, state, values, IsPivotAt}
 use Rattle.exact_matrix.specs.Systems.{joined, IsPlaceOfPivot}
 use Rattle.exact_matrix.proofs.EliminationVectors.{length-unit_rows, width-unit_rows, length-right_beside, width-beside}
 use Rattle.exact_matrix.proofs.EliminationWithout.{solve_rows_width}
@@ -319,3 +319,37 @@ pub invert_assembled : {F : Type 0} (v : F → ℚ) (m : Grid F) (xs : List F) (
 invert_assembled v m xs n c w i P o g e f a b h s =
     let x = checked P o (c + n) w a b in
     invert_done v m xs n w i g e (omega (arith, x)) h s
+
+pub solution_start : {F : Type 0} (v : F → ℚ) (n : ℕ) (ls : List Line) (z : List F) → z ≡ [] → map v z ++ solution_from (n - 0) 0 n ls ≡ solution_from n 0 n ls
+solution_start v n ls z e = let o : n - 0 ≡ n = omega arith in rw (o, e)
+
+pub inverse_start : {F : Type 0} (v : F → ℚ) (n : ℕ) (ls : List Line) (xs : List F) → xs ≡ [] → with_rest (map v xs) (inverse_from (n - 0) 0 n ls) ≡ with_rest [] (inverse_from n 0 n ls)
+inverse_start v n ls xs e = let o : n - 0 ≡ n = omega arith in rw (o, e)
+
+-- no row is used yet
+lines_fresh : (k : ℕ) (rows : List (List ℚ)) → k ≡ length rows → lines (replicate k None) rows ≡ lines_of rows
+lines_fresh zero [] e = refl
+lines_fresh zero (r ∷ rows) e = absurd (omega arith)
+lines_fresh (suc k) [] e = absurd (omega arith)
+lines_fresh (suc k) (r ∷ rows) e = ap (λ t. unused r ∷ t) (lines_fresh k rows (omega arith))
+
+pub state_fresh : {F : Type 0} (v : F → ℚ) (ps : List (Option ℕ)) (k : ℕ) (m : Grid F) → k ≡ length m.rows → ps ≡ replicate k None → state v ps m ≡ lines_of (values v m)
+state_fresh v ps k m e h = ap (λ ps. state v ps m) h ∙ lines_fresh k (values v m) (e ∙ sym (values_length v m))
+
+-- the answers of the rows at the end
+pub refuted_by : {F : Type 0} (v : F → ℚ) (n : ℕ) (ps : List (Option ℕ)) (m : Grid F) (i : ℕ) (w : List F) (x : F) → IsPivotAt v n ps m i → w ≡ drop (suc n) (row_at m i) → entry (map v (row_at m i)) n ≡ v x →
+    Refutation (map v w) (v x) ≡ answer_of n (state v ps m)
+refuted_by v n ps m i w x a e h =
+    ap (λ t. Refutation t (v x)) (ap (map v) e ∙ sym (drop-map v (suc n) (row_at m i))) ∙ ap (Refutation (drop (suc n) (map v (row_at m i)))) (sym h)
+    ∙ ap (answer_by n (state v ps m)) (sym a.row)
+
+pub solved_by : {F : Type 0} (v : F → ℚ) (n : ℕ) (ps : List (Option ℕ)) (m : Grid F) (z : List F) → pivot_row n (state v ps m) ≡ None → map v z ≡ solution_from n 0 n (state v ps m) →
+    Solution (map v z) ≡ answer_of n (state v ps m)
+solved_by v n ps m z h e = ap Solution e ∙ ap (answer_by n (state v ps m)) (sym h)
+
+-- the part of a row that is copied from column k on
+pub tail_copied : {F : Type 0} (w row copy : List F) (k n : ℕ) → w ≡ take (length copy - k) (drop k copy) → copy ≡ row → k ≡ n → w ≡ drop n row
+tail_copied w row copy k n e c h = e ∙ take_rest copy k ∙ ap (drop k) c ∙ ap (λ k. drop k row) h
+
+pub tail_pushed : {F : Type 0} (xs ys row copy : List F) (k : ℕ) → ys ≡ xs ++ take (length copy - k) (drop k copy) → copy ≡ row → ys ≡ xs ++ drop k row
+tail_pushed xs ys row copy k e c = e ∙ ap (λ t. xs ++ t) (take_rest copy k ∙ ap (drop k) c)

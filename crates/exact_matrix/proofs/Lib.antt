@@ -14,3 +14,4 @@ pub mod EliminationFree
 pub mod EliminationInverted
 pub mod EliminationFacts
 pub mod EliminationWithout
+pub mod Answered

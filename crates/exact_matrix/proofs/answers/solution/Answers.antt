@@ -1,13 +1,12 @@
-use Rattle.std.proofs.Common.{ap, ◌∙◌, ◌++◌, map, arith}
-use Rattle.exact_matrix.specs.EliminationAnswers.{solution_from}
+use Rattle.std.proofs.Common.{arith}
 use Rattle.exact_matrix.specs.State.{state}
-use Rattle.exact_matrix.proofs.Assembled.{solution_more, solution_all}
+use Rattle.exact_matrix.proofs.Assembled.{solution_start, solution_more, solution_all}
 use Rattle.exact_matrix.proofs.answers.solution.Goals as goal
 
 pub loop-j-init : goal.loop-j-init
 loop-j-init g c =
     let v = g.F.ExactField.value in
-    ap (λ z. map v z ++ solution_from c.args.n 0 c.args.n (state v c.args.pivots.now c.args.rows.now)) c.in_ok-z.ensures
+    solution_start v c.args.n (state v c.args.pivots.now c.args.rows.now) c.in_ok-z.z c.in_ok-z.ensures
 
 pub loop-j-preserved : goal.loop-j-preserved
 loop-j-preserved g c =
