@@ -1,5 +1,5 @@
 -- The answers on systems and inverses are those of the elimination, and right.
-use Rattle.std.proofs.Common.{◌≡◌, ℕ, suc, ◌+◌, ◌*◌, List, length, map, Option, Some, None, sym, ap, ◌∙◌, subst, arith}
+use Rattle.std.proofs.Common.{◌≡◌, ℕ, suc, ◌+◌, ◌*◌, List, length, map, Option, Some, None, sym, ap, ◌∙◌, subst, refl, arith}
 use Rattle.std.specs.Prelude.{Result, Ok, Err}
 use Rattle.std.specs.Option.{option_map}
 use Rattle.rational.specs.Rational.{ℚ}
@@ -76,7 +76,7 @@ by_inverse v n M xs (Some N) h e =
     (assembled_length v n n xs N h.columns h.rows s, ap Some (assembled v n n xs N h.columns h.rows s))
 
 none_by : (o : Option (List (List ℚ))) → None ≡ option_map joined o → None ≡ o
-none_by None e = e
+none_by None e = refl
 none_by (Some N) e = absurd cc
 
 inverse_is : {F : Type 0} (v : F → ℚ) (m s : Grid F) (top n : ℕ) (ls : List Line) → IsGrid m → n ≡ m.columns → values v s ≡ invert_rows (values v m) →
