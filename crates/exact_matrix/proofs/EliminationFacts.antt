@@ -33,6 +33,7 @@ pub same_products : (n w : ℕ) (rows : List (List ℚ)) (v : List ℚ) → HasC
     → All (λ row. dot row v ≡ zero_ℚ) rows ↔ All (λ l. dot l.entries v ≡ zero_ℚ) (eliminated n (lines_of rows))
 same_products n w rows v h =
     let ls = eliminated n (lines_of rows) in
-    let s = same_kernel w v n (lines_of rows) (width-lines_of w rows h) in
-    (λ k. All-from_recursion (λ l. dot l.entries v ≡ zero_ℚ) ls (s.there (kills-lines v rows (recursion_from_All (λ row. dot row v ≡ zero_ℚ) rows k))),
-    λ k. All-from_recursion (λ row. dot row v ≡ zero_ℚ) rows (killed-lines v rows (s.back (recursion_from_All (λ l. dot l.entries v ≡ zero_ℚ) ls k))))
+    let s = same_kernel w v n (lines_of rows) (width-lines_of w rows h) in (
+      λ k. All-from_recursion (λ l. dot l.entries v ≡ zero_ℚ) ls (s.there (kills-lines v rows (recursion_from_All (λ row. dot row v ≡ zero_ℚ) rows k))),
+      λ k. All-from_recursion (λ row. dot row v ≡ zero_ℚ) rows (killed-lines v rows (s.back (recursion_from_All (λ l. dot l.entries v ≡ zero_ℚ) ls k))),
+    )

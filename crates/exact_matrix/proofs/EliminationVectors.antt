@@ -1,16 +1,16 @@
 -- Rows in two parts, and the products with them.
-use Rattle.std.proofs.Common.{◌≡◌, ◌≢◌, ℕ, zero, suc, ◌+◌, ◌<◌, ◌≤◌, List, [], ◌∷◌, ◌++◌, map, length, take, drop, sym, ap, ◌∙◌, subst, refl, arith, length-append}
+use Rattle.std.proofs.Common.{◌≡◌, ◌≢◌, ℕ, zero, suc, ◌+◌, ◌<◌, ◌≤◌, List, [], ◌∷◌, ◌++◌, length, take, drop, sym, ap, ◌∙◌, refl, arith, length-append}
 use Rattle.std.specs.List.{AllByRecursion}
 use Rattle.algebra.proofs.Ring as laws
-use Rattle.algebra.proofs.Polynomial.{minus, ◌⊕◌, ◌⊝◌, ◌⊗◌, ◌≐◌, lit}
+use Rattle.algebra.proofs.Polynomial.{minus, ◌⊕◌, ◌⊗◌, ◌≐◌, lit}
 use Rattle.algebra.proofs.Solver.{ring}
 use Rattle.algebra.proofs.Certificate.{prove, given, ◌⇐◌}
 use Rattle.rational.specs.Rational.{ℚ, zero_ℚ, one_ℚ, ◌+ℚ◌, ◌*ℚ◌, neg_ℚ}
 use Rattle.rational.specs.Sums.{entry}
-use Rattle.rational.specs.Vectors.{dot, add_each, scale, zeros, unit_vector, rows_dot}
+use Rattle.rational.specs.Vectors.{dot, add_each, scale, zeros, rows_dot}
 use Rattle.rational.proofs.Field.{rationals}
 use Rattle.rational.proofs.Order.{ordered_rationals}
-use Rattle.rational.proofs.Vectors.{dot-append, dot-zeros_right, dot-unit_vector, length-unit_vector, length-rows_dot, same_by_entries, zeros_by_entries}
+use Rattle.rational.proofs.Vectors.{dot-append, dot-zeros_right, dot-unit_vector, length-unit_vector, length-rows_dot, same_by_entries}
 use Rattle.exact_matrix.specs.EliminationAnswers.{beside, right_beside, unit_rows, unit_matrix, lines_of}
 use Rattle.exact_matrix.proofs.EliminationKernel.{Kills}
 
