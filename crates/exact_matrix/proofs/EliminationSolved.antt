@@ -18,7 +18,7 @@ use Rattle.exact_matrix.specs.EliminationAnswers.{right_beside, unit_matrix, sol
 use Rattle.exact_matrix.specs.EliminationMeaning.{Shaped, IsCombined, Solves, Refutes, IsRight}
 use Rattle.exact_matrix.proofs.EliminationLines.{each_both, each_weaker, each_parts, each_all, found, not_found}
 use Rattle.exact_matrix.proofs.EliminationPivots.{AreShaped, shaped, other_column}
-use Rattle.exact_matrix.proofs.EliminationVectors.{entry-take, length-front, length-back, drop-entry, dot-one_place, length-unit_rows, width-unit_rows, rows_dot-unit, length-right_beside, width-right_beside, rows_dot-right_beside, width-beside, zero_and_less, one_less_one, same_of_difference, rows_dot-zeros}
+use Rattle.exact_matrix.proofs.EliminationVectors.{entry-take, length-front, length-back, drop-entry, dot-one_place, length-unit_rows, width-unit_rows, rows_dot-unit, length-right_beside, width-right_beside, rows_dot-right_beside, width-beside, zero_and_less, one_less_one, same_of_difference, same_beside_zero, rows_dot-zeros}
 use Rattle.exact_matrix.proofs.EliminationTailed as tailed
 
 -- ---- the vector of the solution
@@ -218,6 +218,21 @@ module _ (n : ℕ) (M : List (List ℚ)) (r : List ℚ) (columns : HasColumns n 
       none_left d x u f g =
           ap (λ t. t +ℚ (x *ℚ neg_ℚ one_ℚ +ℚ u)) f ∙ ap (λ t. x +ℚ (x *ℚ neg_ℚ one_ℚ +ℚ t)) g
           ∙ ring rationals (x ∷ []) (λ x. x ⊕ (x ⊗ minus (lit 1) ⊕ lit 0) ≐ lit 0) refl
+
+  -- what each row gives of v, M gives
+  pub rows_give : (z v : List ℚ) → length z ≡ n → length v ≡ length M → AllByRecursion (λ l. dot (take n l.entries) z ≡ dot (drop (suc n) l.entries) v) final → rows_dot M z ≡ v
+  rows_give z v e f h =
+      let u = scale (neg_ℚ one_ℚ) v in
+      same_beside_zero (rows_dot M z) r v (length-rows_dot M z ∙ sym sides) (length-rows_dot M z ∙ sym f)
+      (back z zero_ℚ u e (length-scale (neg_ℚ one_ℚ) v ∙ f)
+      (each_weaker (λ l. dot (take n l.entries) z ≡ dot (drop (suc n) l.entries) v) (Gives z zero_ℚ u) final
+      (λ l g. none_left (dot (take n l.entries) z) (entry l.entries n) (dot (drop (suc n) l.entries) v) (dot (drop (suc n) l.entries) u) g (dot-scale_right (drop (suc n) l.entries) (neg_ℚ one_ℚ) v)) h)
+      ∙ ap zeros (sym (length-rows_dot M z)))
+    where
+      none_left : (d x b u : ℚ) → d ≡ b → u ≡ neg_ℚ one_ℚ *ℚ b → d +ℚ (x *ℚ zero_ℚ +ℚ u) ≡ zero_ℚ
+      none_left d x b u g f =
+          ap (λ t. t +ℚ (x *ℚ zero_ℚ +ℚ u)) g ∙ ap (λ t. b +ℚ (x *ℚ zero_ℚ +ℚ t)) f
+          ∙ ring rationals (x ∷ b ∷ []) (λ x b. b ⊕ (x ⊗ lit 0 ⊕ minus (lit 1) ⊗ b) ≐ lit 0) refl
 
   -- where no row refutes, the solution solves
   pub solution_solves : pivot_row n final ≡ None → rows_dot M (solution_from n 0 n final) ≡ r

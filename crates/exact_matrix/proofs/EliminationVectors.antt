@@ -171,6 +171,20 @@ same_of_difference (x ∷ a) (y ∷ r) h k =
     apart : (a b : ℚ) (u v : List ℚ) → a ∷ u ≡ b ∷ v → (a ≡ b) × (u ≡ v)
     apart a b u v k = (cc, cc)
 
+-- where a + (0 r - u) is 0, a is u
+pub same_beside_zero : (a r u : List ℚ) → length a ≡ length r → length a ≡ length u → add_each a (add_each (scale zero_ℚ r) (scale (neg_ℚ one_ℚ) u)) ≡ zeros (length a) → a ≡ u
+same_beside_zero [] r [] h l k = refl
+same_beside_zero [] r (z ∷ u) h l k = absurd (omega arith)
+same_beside_zero (x ∷ a) [] u h l k = absurd (omega arith)
+same_beside_zero (x ∷ a) (y ∷ r) [] h l k = absurd (omega arith)
+same_beside_zero (x ∷ a) (y ∷ r) (z ∷ u) h l k =
+    let t = apart (x +ℚ (zero_ℚ *ℚ y +ℚ neg_ℚ one_ℚ *ℚ z)) zero_ℚ (add_each a (add_each (scale zero_ℚ r) (scale (neg_ℚ one_ℚ) u))) (zeros (length a)) k in
+    ap (λ s. s ∷ a) (prove ordered_rationals (x ∷ y ∷ z ∷ []) (λ x y z. x ≐ z ⇐ given (x ⊕ (lit 0 ⊗ y ⊕ minus (lit 1) ⊗ z) ≐ lit 0)) refl t.0)
+    ∙ ap (λ s. z ∷ s) (same_beside_zero a r u (omega arith) (omega arith) t.1)
+  where
+    apart : (a b : ℚ) (u v : List ℚ) → a ∷ u ≡ b ∷ v → (a ≡ b) × (u ≡ v)
+    apart a b u v k = (cc, cc)
+
 -- where a - u is 0, a is u
 pub same_of_less : (a u : List ℚ) → length a ≡ length u → add_each a (scale (neg_ℚ one_ℚ) u) ≡ zeros (length a) → a ≡ u
 same_of_less [] [] h k = refl

@@ -12,7 +12,7 @@ ghost use Rattle.rational.specs.Rational.{ℚ, zero_ℚ, Fits};
 ghost use Rattle.rational.specs.Sums.{entry};
 ghost use Rattle.rational.specs.Vectors.{HasColumns, dot, rows_dot, zeros};
 ghost use Rattle.std.specs.List.{All, Contains};
-ghost use Rattle.std.specs.Prelude.{◌≡◌, ◌<◌, ◌≤◌, ◌↔◌, ℕ, List, length, map, option_map, None, Some, Ok, Err};
+ghost use Rattle.std.specs.Prelude.{◌≡◌, ◌<◌, ◌≤◌, ◌↔◌, ℕ, suc, List, length, map, take, drop, option_map, None, Some, Ok, Err};
 
 /// The calculation ends with the first operation of the list whose result has a part above the
 /// greatest, and with the exact lines where there is none.
@@ -24,11 +24,13 @@ pub fn elimination_ends_with_its_first_refusal()
     ensures missing { (top : ℕ) (ops : List Refused) → first_past top ops ≡ None → All (λ r. Fits top (exact_of r.op r.left r.right)) ops }
 {}
 
-/// Each row of an elimination is its own combination of the given rows, and the rows have the same
-/// products 0 as the given ones. So `M z = r` has the solutions that the rows at the end have.
+/// Each row of an elimination is its own combination of the given rows; the rows give 0 of the same
+/// vectors as the given ones; and for every right side v, `M z = v` has the solutions that the rows
+/// at the end have.
 pub fn elimination_combines_rows()
     ensures combined { (n : ℕ) (M : List (List ℚ)) (r : List ℚ) → HasColumns n M → length r ≡ length M → All (λ l. IsCombined n M r l.entries) (eliminated n (lines_of (solve_rows M r))) }
     ensures kernel { (n w : ℕ) (rows : List (List ℚ)) (v : List ℚ) → HasColumns w rows → All (λ row. dot row v ≡ zero_ℚ) rows ↔ All (λ l. dot l.entries v ≡ zero_ℚ) (eliminated n (lines_of rows)) }
+    ensures solutions { (n : ℕ) (M : List (List ℚ)) (r z v : List ℚ) → HasColumns n M → length r ≡ length M → length z ≡ n → length v ≡ length M → (rows_dot M z ≡ v) ↔ All (λ l. dot (take n l.entries) z ≡ dot (drop (suc n) l.entries) v) (eliminated n (lines_of (solve_rows M r))) }
 {}
 
 /// The rows at the end are 1 at each pivot, 0 in the other rows of its column, and 0 in the
