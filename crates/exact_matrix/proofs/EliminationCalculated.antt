@@ -1,6 +1,6 @@
 -- The calculation of an elimination ends with the first operation that is past, and else with the exact lines.
 use Rattle.std.proofs.Common.{◌≡◌, ℕ, zero, suc, List, [], ◌∷◌, ◌++◌, map, length, Option, Some, None, Bool, true, false, ◌||◌, sym, ap, ◌∙◌, subst, refl, arith}
-use Rattle.std.specs.Prelude.{if◌then◌else◌, Result, Ok, Err}
+use Rattle.std.specs.Prelude.{Result, Ok, Err}
 use Rattle.std.specs.List.{AllByRecursion, All, Contains}
 use Rattle.std.proofs.lemmas.List.Elements.{All-head, All-nil, All-cons, All-contains_itself, Contains-append_right}
 use Rattle.rational.specs.Rational.{Fits}
@@ -27,10 +27,10 @@ use Rattle.frac_core.specs.declared.fractions.Tried.TheVariants.{Is, Past}
 use Rattle.frac_core.specs.Calculated.{tried_in, and_then, exact_of}
 use Rattle.frac_core.specs.Row.{less_step, Row, Entries, Refusal, entry_then, row_less}
 use Rattle.frac_core.proofs.RowLemmas.{less_zero, less_more}
-use Rattle.exact_matrix.specs.Elimination.{Line, used, is_pivot, pivot_row, with_pivot, divided, freed, step, eliminated_from}
-use Rattle.exact_matrix.specs.EliminationOperations.{operation, first_past, division_ops, less_ops, freed_ops, each_freed_ops, step_ops, step_ops_by, ops_from}
-use Rattle.exact_matrix.specs.EliminationCalculation.{then_with, ended, divide_step, divided_in, with_entries, freed_in, line_then, each_freed_in, cleared_by, step_in, step_in_by, eliminated_from_in}
-use Rattle.exact_matrix.proofs.EliminationLines.{bool_cases, each_parts, each_whole, step_each, Found, found, by_pivot_row, step-none, step-some, freed-pivot, freed-other, eliminated-end, eliminated-more, HasWidth, width-step, width-with_pivot, width-lines_of}
+use Rattle.exact_matrix.specs.Elimination.{Line, is_pivot, pivot_row, with_pivot, divided, freed, step, eliminated_from}
+use Rattle.exact_matrix.specs.EliminationOperations.{operation, first_past, division_ops, less_ops, freed_ops, each_freed_ops, step_ops, ops_from}
+use Rattle.exact_matrix.specs.EliminationCalculation.{then_with, ended, divide_step, divided_in, with_entries, freed_in, line_then, each_freed_in, cleared_by, step_in, eliminated_from_in}
+use Rattle.exact_matrix.proofs.EliminationLines.{bool_cases, by_pivot_row, step-none, step-some, freed-pivot, freed-other, eliminated-end, eliminated-more, HasWidth, width-step, width-with_pivot, width-lines_of}
 
 -- ---- the first operation that is past
 
@@ -324,7 +324,7 @@ step_in-is top w j ls h = by_pivot_row j ls none some
         let lines = with_pivot j p ls in
         step_in-some top j ls row e ∙ ap (cleared_by top j ls) (divided_in-is top q row)
         ∙ cleared top j ls p (first_past top (division_ops q row)) (first_past top (each_freed_ops j p lines)) (map (freed j p) lines)
-          (each_freed_in-is top j p lines (subst (λ n. HasWidth n lines) (sym t.1) t.0))
+        (each_freed_in-is top j p lines (subst (λ n. HasWidth n lines) (sym t.1) t.0))
         ∙ ap (λ o. ended o (map (freed j p) lines)) (sym (first_past-append top (division_ops q row) (each_freed_ops j p lines)))
         ∙ ap (λ os. ended (first_past top os) (map (freed j p) lines)) (sym (step_ops-some j ls row e))
         ∙ ap (ended (first_past top (step_ops j ls))) (sym (step-some j ls row e))
@@ -357,7 +357,7 @@ eliminated_from_in-is top w zero j ls h =
 eliminated_from_in-is top w (suc k) j ls h =
     eliminated_in-more top k j ls ∙ ap (λ r. then_with r (λ next. eliminated_from_in top k (suc j) next)) (step_in-is top w j ls h)
     ∙ then_ended (first_past top (step_ops j ls)) (first_past top (ops_from k (suc j) (step j ls))) (step j ls) (λ next. eliminated_from_in top k (suc j) next) (eliminated_from k (suc j) (step j ls))
-      (eliminated_from_in-is top w k (suc j) (step j ls) (width-step w j ls h))
+    (eliminated_from_in-is top w k (suc j) (step j ls) (width-step w j ls h))
     ∙ ap (λ o. ended o (eliminated_from k (suc j) (step j ls))) (sym (first_past-append top (step_ops j ls) (ops_from k (suc j) (step j ls))))
     ∙ ap (λ os. ended (first_past top os) (eliminated_from k (suc j) (step j ls))) (sym (ops_from-more k j ls))
     ∙ ap (ended (first_past top (ops_from (suc k) j ls))) (sym (eliminated-more k j ls))
@@ -380,12 +380,33 @@ first_past-found top [] r h = absurd (let bad : None ≡ Some r = sym (first_pas
 first_past-found top (s ∷ ops) r h = bool_cases (fits top (exact_of s.op s.left s.right))
     (λ e. let t = first_past-found top ops r (sym (first_past-fits top s ops e) ∙ h) in (Contains-append_right (s ∷ []) ops r t.0, t.1))
     (λ e.
-    let same : s ≡ r = some_refused s r (sym (first_past-past top s ops e) ∙ h) in
-    (subst (Contains (s ∷ ops)) same (All-head (Contains (s ∷ ops)) s ops (All-contains_itself (s ∷ ops))),
-    subst (λ (r : Refused). ¬ (Fits top (exact_of r.op r.left r.right))) same (λ f. let bad : true ≡ false = sym (fits_yes top (exact_of s.op s.left s.right) f) ∙ e in absurd cc)))
+    let same : s ≡ r = some_refused s r (sym (first_past-past top s ops e) ∙ h) in (
+      subst (Contains (s ∷ ops)) same (All-head (Contains (s ∷ ops)) s ops (All-contains_itself (s ∷ ops))),
+      subst (λ (r : Refused). ¬ (Fits top (exact_of r.op r.left r.right))) same (λ f. let bad : true ≡ false = sym (fits_yes top (exact_of s.op s.left s.right) f) ∙ e in absurd cc),
+    ))
 
 pub first_past-missing : (top : ℕ) (ops : List Refused) → first_past top ops ≡ None → All (λ r. Fits top (exact_of r.op r.left r.right)) ops
 first_past-missing top [] h = All-nil (λ r. Fits top (exact_of r.op r.left r.right))
 first_past-missing top (s ∷ ops) h = bool_cases (fits top (exact_of s.op s.left s.right))
     (λ e. All-cons (λ r. Fits top (exact_of r.op r.left r.right)) s ops (fits_told top (exact_of s.op s.left s.right) e) (first_past-missing top ops (sym (first_past-fits top s ops e) ∙ h)))
     (λ e. absurd (let bad : Some s ≡ None = sym (first_past-past top s ops e) ∙ h in cc))
+
+-- ---- what comes of a calculation that ends with lines, and of one that ends with a refusal
+
+ended_ok : {A : Type 0} (o : Option Refused) (x y : A) → ended o x ≡ Ok y → (o ≡ None) × (y ≡ x)
+ended_ok None x y h = (refl, cc)
+ended_ok (Some r) x y h = absurd cc
+
+ended_err : {A : Type 0} (o : Option Refused) (x : A) (r : Refused) → ended o x ≡ Err r → o ≡ Some r
+ended_err None x r h = absurd cc
+ended_err (Some s) x r h = cc
+
+pub eliminated_in-exact : (top n w : ℕ) (rows : List (List ℚ)) (ls : List Line) → HasColumns w rows → eliminated_in top n (lines_of rows) ≡ Ok ls → ls ≡ eliminated n (lines_of rows)
+eliminated_in-exact top n w rows ls h e =
+    (ended_ok (first_past top (elimination_ops n (lines_of rows))) (eliminated n (lines_of rows)) ls (sym (eliminated_in-is top n w rows h) ∙ e)).1
+
+pub eliminated_in-refused : (top n w : ℕ) (rows : List (List ℚ)) (r : Refused) → HasColumns w rows → eliminated_in top n (lines_of rows) ≡ Err r
+    → Contains (elimination_ops n (lines_of rows)) r × ¬ (Fits top (exact_of r.op r.left r.right))
+eliminated_in-refused top n w rows r h e =
+    first_past-found top (elimination_ops n (lines_of rows)) r
+    (ended_err (first_past top (elimination_ops n (lines_of rows))) (eliminated n (lines_of rows)) r (sym (eliminated_in-is top n w rows h) ∙ e))

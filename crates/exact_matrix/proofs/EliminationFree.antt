@@ -1,18 +1,18 @@
 -- Columns with and without a pivot: those with one are independent, and each other is a combination of them.
-use Rattle.std.proofs.Common.{◌≡◌, ◌≢◌, ℕ, zero, suc, ◌+◌, ◌<◌, ◌≤◌, List, [], ◌∷◌, ◌++◌, map, length, take, drop, Option, Some, None, false, sym, ap, ◌∙◌, subst, refl, arith}
+use Rattle.std.proofs.Common.{◌≡◌, ℕ, suc, ◌+◌, ◌<◌, ◌≤◌, List, [], ◌∷◌, length, take, drop, Option, Some, None, sym, ap, ◌∙◌, subst, refl, arith}
 use Rattle.std.specs.Prelude.{pos}
 use Rattle.std.specs.List.{AllByRecursion}
 use Rattle.std.proofs.lemmas.List.Elements.{recursion_from_All}
 use Rattle.algebra.proofs.Ring as laws
-use Rattle.algebra.proofs.Polynomial.{minus, ◌⊕◌, ◌⊝◌, ◌⊗◌, ◌≐◌, lit}
+use Rattle.algebra.proofs.Polynomial.{minus, ◌⊕◌, ◌⊗◌, ◌≐◌, lit}
 use Rattle.algebra.proofs.Solver.{ring}
 use Rattle.rational.specs.Rational.{ℚ, zero_ℚ, one_ℚ, ◌+ℚ◌, ◌*ℚ◌, neg_ℚ}
 use Rattle.rational.specs.Sums.{entry}
 use Rattle.rational.specs.Vectors.{dot, add_each, scale, zeros, unit_vector, HasColumns, rows_dot}
 use Rattle.rational.proofs.Field.{rationals}
 use Rattle.rational.proofs.Wholes.{num-whole}
-use Rattle.rational.proofs.Vectors.{length-zeros, length-scale, length-add_each, length-unit_vector, length-rows_dot, dot_comm, dot-zeros_left, dot-zeros_right, dot-scale_right, dot-add_right, dot-unit_vector, zeros_by_entries, entry-zeros, entry-scale, entry-add_each, entry-unit_vector_same}
-use Rattle.exact_matrix.specs.Elimination.{Line, used, is_pivot, pivot_row, eliminated}
+use Rattle.rational.proofs.Vectors.{length-scale, length-add_each, length-unit_vector, length-rows_dot, dot_comm, dot-zeros_left, dot-zeros_right, dot-scale_right, dot-add_right, dot-unit_vector, zeros_by_entries, entry-zeros, entry-scale, entry-add_each, entry-unit_vector_same}
+use Rattle.exact_matrix.specs.Elimination.{Line, used, pivot_row, eliminated}
 use Rattle.exact_matrix.specs.EliminationAnswers.{beside, right_beside, unit_matrix, solve_rows, lines_of, row_of_pivot, entry_in, solution_from, Solution, answer_by, solved}
 use Rattle.exact_matrix.specs.EliminationMeaning.{Shaped, Depends, IsFree}
 use Rattle.exact_matrix.proofs.EliminationLines.{each_weaker}
@@ -82,8 +82,8 @@ module _ (n x : ℕ) (M X : List (List ℚ)) (m_width : AllByRecursion (λ r. le
       by c b (Some row) f =
           let s = line_of_pivot (Shaped w n final) c final row f shapes in
           sym (dot-one_place c (take n row) z (λ i l d.
-            let g : i < n = subst (λ t. i < t) e l in
-            ap (λ t. t *ℚ entry z i) (entry-take n row i g) ∙ product c i row s g d (row_of_pivot i final) refl)
+          let g : i < n = subst (λ t. i < t) e l in
+          ap (λ t. t *ℚ entry z i) (entry-take n row i g) ∙ product c i row s g d (row_of_pivot i final) refl)
           ∙ ap (λ t. t *ℚ entry z c) (entry-take n row c b ∙ s.one c refl) ∙ ring rationals (entry z c ∷ []) (λ y. lit 1 ⊗ y ≐ y) refl)
           ∙ line_of_pivot (λ l. dot (take n l.entries) z ≡ zero_ℚ) c final row f (each_nothing z e h)
 

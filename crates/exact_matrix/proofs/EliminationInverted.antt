@@ -1,10 +1,9 @@
 -- The inverse: where each column has a pivot it is one, and else the columns are dependent.
-use Rattle.std.proofs.Common.{◌≡◌, ◌≢◌, ℕ, zero, suc, ◌+◌, ◌<◌, ◌≤◌, ◌==◌, List, [], ◌∷◌, ◌++◌, map, length, take, drop, Option, Some, None, Bool, true, false, not, ◌&&◌, sym, ap, ◌∙◌, subst, refl, arith, inl, inr}
-use Rattle.std.specs.Prelude.{◌⊎◌, pos}
+use Rattle.std.proofs.Common.{◌≡◌, ◌≢◌, ℕ, zero, suc, ◌+◌, ◌<◌, ◌≤◌, List, [], ◌∷◌, ◌++◌, map, length, take, drop, Option, Some, None, false, sym, ap, ◌∙◌, subst, refl, arith, inl, inr}
+use Rattle.std.specs.Prelude.{◌⊎◌}
 use Rattle.std.specs.List.{AllByRecursion}
 use Rattle.std.proofs.lemmas.List.Elements.{recursion_from_All, All-from_recursion}
-use Rattle.algebra.proofs.Ring as laws
-use Rattle.algebra.proofs.Polynomial.{minus, ◌⊕◌, ◌⊝◌, ◌⊗◌, ◌≐◌, lit}
+use Rattle.algebra.proofs.Polynomial.{minus, ◌⊕◌, ◌⊗◌, ◌≐◌, lit}
 use Rattle.algebra.proofs.Solver.{ring}
 use Rattle.algebra.proofs.Certificate.{prove, given, ◌⇐◌}
 use Rattle.rational.specs.Rational.{ℚ, zero_ℚ, one_ℚ, ◌+ℚ◌, ◌*ℚ◌, neg_ℚ}
@@ -12,15 +11,13 @@ use Rattle.rational.specs.Sums.{entry}
 use Rattle.rational.specs.Vectors.{dot, add_each, scale, zeros, unit_vector, HasColumns, rows_dot, row_at, combine}
 use Rattle.rational.proofs.Field.{rationals}
 use Rattle.rational.proofs.Order.{ordered_rationals}
-use Rattle.rational.proofs.Wholes.{num-whole}
-use Rattle.rational.proofs.Vectors.{length-zeros, length-scale, length-add_each, length-unit_vector, length-rows_dot, length-combine, dot_comm, dot-zeros_left, dot-zeros_right, dot-scale_right, dot-add_right, dot-unit_vector, same_by_dot, same_by_entries, transpose, entry-zeros, entry-scale, entry-add_each, entry-rows_dot, entry-unit_vector_same, entry-unit_vector_other}
-use Rattle.exact_matrix.specs.Elimination.{Line, unused, used, is_unused, is_pivot, pivot_row, divided, freed, step, eliminated}
-use Rattle.exact_matrix.specs.EliminationAnswers.{unit_rows, unit_matrix, beside, invert_rows, lines_of, row_of_pivot, entry_in, solution_from, part_then, inverse_from, inverse}
+use Rattle.rational.proofs.Vectors.{length-scale, length-unit_vector, length-rows_dot, length-combine, dot_comm, dot-scale_right, dot-unit_vector, same_by_dot, same_by_entries, transpose, entry-rows_dot, entry-unit_vector_same, entry-unit_vector_other}
+use Rattle.exact_matrix.specs.Elimination.{Line, unused, used, is_pivot, pivot_row, divided, freed, step, eliminated}
+use Rattle.exact_matrix.specs.EliminationAnswers.{unit_rows, unit_matrix, beside, invert_rows, lines_of, row_of_pivot, part_then, inverse_from, inverse}
 use Rattle.exact_matrix.specs.EliminationMeaning.{Shaped, Depends, IsInverse, IsInverseOrDepends}
-use Rattle.exact_matrix.proofs.EliminationLines.{bool_cases, each_both, each_weaker, each_parts, Found, found, by_pivot_row, step-none, stepped, eliminated_keeps_all}
-use Rattle.exact_matrix.proofs.EliminationPivots.{AreShaped, shaped, shaped-step, shaped-first, none_yet, row_of_pivot-none, row_of_pivot-here, row_of_pivot-later, row_of_pivot-step, line_of_pivot, pivot-freed, mapped, other_column, differs, column_cases}
+use Rattle.exact_matrix.proofs.EliminationLines.{each_both, each_weaker, found, by_pivot_row, step-none, stepped, eliminated_keeps_all}
+use Rattle.exact_matrix.proofs.EliminationPivots.{AreShaped, shaped-step, shaped-first, none_yet, row_of_pivot-none, row_of_pivot-later, row_of_pivot-step, line_of_pivot, pivot-freed, mapped, other_column, column_cases}
 use Rattle.exact_matrix.proofs.EliminationVectors.{entry-take, length-front, length-back, length-unit_rows, width-unit_rows, rows_dot-unit, rows_dot-zeros, width-beside, itself_less, same_of_less}
-use Rattle.exact_matrix.proofs.EliminationSolved.{length-solution_from, entry-solution, used_row_holds, unused_front}
 use Rattle.exact_matrix.proofs.EliminationTailed as tailed
 use Rattle.exact_matrix.proofs.EliminationFree as free_columns
 
@@ -104,9 +101,9 @@ counted-step w size j ls s = record {
   count = λ h. by_pivot_row j ls
       (λ e. absurd (let x = h j (omega arith) in let bad : None ≡ Some x.0 = sym (no_row j ls (none_yet w j ls s.shapes)) ∙ ap (row_of_pivot j) (sym (step-none j ls e)) ∙ x.1 in cc))
       (λ row e. count-step j ls row e ∙ ap suc (s.count (λ c b.
-        let x = h c (omega arith) in
-        let differ : c ≢ j = omega arith in
-        mapped _ (row_of_pivot c ls) x.0 (sym (row_of_pivot-step c j ls row e differ) ∙ x.1))));
+      let x = h c (omega arith) in
+      let differ : c ≢ j = omega arith in
+      mapped _ (row_of_pivot c ls) x.0 (sym (row_of_pivot-step c j ls row e differ) ∙ x.1))));
 }
 
 count-first : (rows : List (List ℚ)) → count_used (map unused rows) ≡ 0
@@ -263,8 +260,8 @@ module _ (n : ℕ) (M : List (List ℚ)) (columns : HasColumns n M) (square : le
       same_of_less (rows_dot M z) v (length-rows_dot M z ∙ sym f)
       (ap (add_each (rows_dot M z)) (sym (rows_dot-unit m u (length-scale (neg_ℚ one_ℚ) v ∙ f)))
       ∙ tailed.back n m M I m_width i_width heights z u e
-        (each_weaker (λ l. dot (take n l.entries) z ≡ dot (drop n l.entries) v) (λ l. dot (take n l.entries) z +ℚ dot (drop n l.entries) u ≡ zero_ℚ) final
-        (λ l g. none_left (dot (take n l.entries) z) (dot (drop n l.entries) v) (dot (drop n l.entries) u) g (dot-scale_right (drop n l.entries) (neg_ℚ one_ℚ) v)) h)
+      (each_weaker (λ l. dot (take n l.entries) z ≡ dot (drop n l.entries) v) (λ l. dot (take n l.entries) z +ℚ dot (drop n l.entries) u ≡ zero_ℚ) final
+      (λ l g. none_left (dot (take n l.entries) z) (dot (drop n l.entries) v) (dot (drop n l.entries) u) g (dot-scale_right (drop n l.entries) (neg_ℚ one_ℚ) v)) h)
       ∙ ap zeros (sym (length-rows_dot M z)))
     where
       none_left : (d b u : ℚ) → d ≡ b → u ≡ neg_ℚ one_ℚ *ℚ b → d +ℚ u ≡ zero_ℚ
@@ -293,8 +290,8 @@ module _ (n : ℕ) (M : List (List ℚ)) (columns : HasColumns n M) (square : le
         let b : i < n = subst (λ t. i < t) f h in
         entry-take n l.entries i b
         ∙ column_cases i c
-          (λ g. ap (entry l.entries) g ∙ s.one c p ∙ sym (entry-unit_vector_same n c (s.below c p)) ∙ ap (entry (unit_vector n c)) (sym g))
-          (λ d. let t = pivots i b in s.other i t.0 t.1 (subst (λ o. is_pivot i o ≡ false) (sym p) (other_column c i (λ g. d (sym g)))) ∙ sym (entry-unit_vector_other n c i (λ g. d (sym g)))))
+        (λ g. ap (entry l.entries) g ∙ s.one c p ∙ sym (entry-unit_vector_same n c (s.below c p)) ∙ ap (entry (unit_vector n c)) (sym g))
+        (λ d. let t = pivots i b in s.other i t.0 t.1 (subst (λ o. is_pivot i o ≡ false) (sym p) (other_column c i (λ g. d (sym g)))) ∙ sym (entry-unit_vector_other n c i (λ g. d (sym g)))))
 
     row_gives : (z : List ℚ) (c : ℕ) → length z ≡ n → c < n → dot (row_at N c) (rows_dot M z) ≡ entry z c
     row_gives z c f h =
@@ -316,12 +313,12 @@ module _ (n : ℕ) (M : List (List ℚ)) (columns : HasColumns n M) (square : le
         rows_span z v g (f ∙ sym square)
         (each_weaker (λ l. Shaped w n final l × ((k : ℕ) × (l.pivot ≡ Some k))) (λ l. dot (take n l.entries) z ≡ dot (drop n l.entries) v) final
         (λ l t.
-          let k = t.1.0 in
-          let p = t.1.1 in
-          let b = t.0.below k p in
-          let r = row k b in
-          ap (λ u. dot u z) (front_unit l k p t.0) ∙ dot-unit_vector n k z (omega arith) ∙ entry-rows_dot N v k
-          ∙ ap (λ u. dot u v) (r.2 ∙ ap (drop n) (same_row r.0 l.entries (sym r.1 ∙ t.0.own k p))))
+        let k = t.1.0 in
+        let p = t.1.1 in
+        let b = t.0.below k p in
+        let r = row k b in
+        ap (λ u. dot u z) (front_unit l k p t.0) ∙ dot-unit_vector n k z (omega arith) ∙ entry-rows_dot N v k
+        ∙ ap (λ u. dot u v) (r.2 ∙ ap (drop n) (same_row r.0 l.entries (sym r.1 ∙ t.0.own k p))))
         (each_both (Shaped w n final) (λ l. (k : ℕ) × (l.pivot ≡ Some k)) final shapes used_lines))
       where
         same_row : (u v : List ℚ) → Some u ≡ Some v → u ≡ v

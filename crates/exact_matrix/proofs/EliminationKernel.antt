@@ -1,19 +1,19 @@
 -- An elimination keeps the vectors whose product with each row is 0.
-use Rattle.std.proofs.Common.{◌≡◌, ℕ, zero, suc, List, [], ◌∷◌, ◌++◌, map, length, Option, Some, None, true, false, sym, ap, ◌∙◌, subst, refl, arith}
+use Rattle.std.proofs.Common.{◌≡◌, ℕ, List, [], ◌∷◌, length, false, sym, ap, ◌∙◌, refl}
 use Rattle.std.specs.List.{AllByRecursion}
 use Rattle.algebra.proofs.Ring as laws
-use Rattle.algebra.proofs.Polynomial.{minus, ◌⊕◌, ◌⊝◌, ◌⊗◌, ◌≐◌, lit}
+use Rattle.algebra.proofs.Polynomial.{minus, ◌⊕◌, ◌⊗◌, ◌≐◌, lit}
 use Rattle.algebra.proofs.Solver.{ring}
-use Rattle.algebra.proofs.Certificate.{prove, given, scaled, ◌⊞◌, ◌⇐◌}
-use Rattle.rational.specs.Rational.{ℚ, zero_ℚ, one_ℚ, ◌+ℚ◌, ◌*ℚ◌, ◌/ℚ◌, neg_ℚ, reciprocal}
+use Rattle.algebra.proofs.Certificate.{prove, scaled, ◌⊞◌, ◌⇐◌}
+use Rattle.rational.specs.Rational.{ℚ, zero_ℚ, ◌+ℚ◌, ◌*ℚ◌, neg_ℚ, reciprocal}
 use Rattle.rational.specs.Order.{same_fields, differ_of_same_fields}
 use Rattle.rational.specs.Sums.{entry}
-use Rattle.rational.specs.Vectors.{dot, add_each, scale}
+use Rattle.rational.specs.Vectors.{dot, scale}
 use Rattle.rational.proofs.Field.{rationals, mul-reciprocal}
 use Rattle.rational.proofs.Order.{ordered_rationals}
 use Rattle.rational.proofs.Vectors.{dot-scale_left, dot-add_scale_left}
-use Rattle.exact_matrix.specs.Elimination.{Line, unused, used, is_pivot, divided, freed, step, eliminated}
-use Rattle.exact_matrix.proofs.EliminationLines.{bool_cases, each_both, each_weaker, step_each, step_each_back, freed-pivot, freed-other, eliminated_keeps_all, HasWidth, length-divided, length-freed, width-step}
+use Rattle.exact_matrix.specs.Elimination.{Line, is_pivot, divided, freed, step, eliminated}
+use Rattle.exact_matrix.proofs.EliminationLines.{bool_cases, each_both, step_each, step_each_back, freed-pivot, freed-other, eliminated_keeps_all, HasWidth, length-divided, width-step}
 
 -- each row gives 0 of v
 abbrev pub Kills : List ℚ → List Line → Type 0
@@ -53,9 +53,10 @@ kills-step_back : (w : ℕ) (v : List ℚ) (j : ℕ) (ls : List Line) → HasWid
 kills-step_back w v j ls h k =
     step_each_back (λ l. length l.entries ≡ w) (λ l. dot l.entries v ≡ zero_ℚ) j ls
     (λ row nz a e.
-    let p = divided (entry row j) row in
-    (killed_back (entry row j) (dot row v) nz (sym (dot-divided (entry row j) row v) ∙ e),
-    λ l b u. sym (dot-freed j p l v (b ∙ sym (length-divided (entry row j) row ∙ a)) e) ∙ u))
+    let p = divided (entry row j) row in (
+      killed_back (entry row j) (dot row v) nz (sym (dot-divided (entry row j) row v) ∙ e),
+      λ l b u. sym (dot-freed j p l v (b ∙ sym (length-divided (entry row j) row ∙ a)) e) ∙ u,
+    ))
     h k
 
 -- what the rows at the beginning have in common with the rows at the end

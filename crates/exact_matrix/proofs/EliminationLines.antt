@@ -1,5 +1,5 @@
 -- Lines of an elimination: what holds of each line, through a step.
-use Rattle.std.proofs.Common.{◌≡◌, ℕ, zero, suc, ◌+◌, ◌==◌, List, [], ◌∷◌, ◌++◌, map, length, Option, Some, None, Bool, true, false, not, ◌&&◌, sym, ap, ◌∙◌, subst, refl, arith, eq-eqb}
+use Rattle.std.proofs.Common.{◌≡◌, ℕ, zero, suc, ◌+◌, List, [], ◌∷◌, ◌++◌, map, length, Option, Some, None, Bool, true, false, not, ◌&&◌, sym, ap, ◌∙◌, subst, refl, arith, eq-eqb}
 use Rattle.std.specs.List.{AllByRecursion}
 use Rattle.std.proofs.lemmas.List.Elements.{All-head, All-tail}
 use Rattle.rational.specs.Rational.{ℚ, zero_ℚ, neg_ℚ}
@@ -7,7 +7,7 @@ use Rattle.rational.specs.Order.{same_fields}
 use Rattle.rational.specs.Sums.{entry}
 use Rattle.rational.specs.Vectors.{add_each, scale, HasColumns}
 use Rattle.rational.proofs.Vectors.{length-add_each, length-scale}
-use Rattle.exact_matrix.specs.Elimination.{Line, unused, used, is_unused, is_pivot, may_pivot, pivot_row, with_pivot, divided, freed, step, step_by, eliminated_from}
+use Rattle.exact_matrix.specs.Elimination.{Line, unused, used, is_unused, is_pivot, may_pivot, pivot_row, with_pivot, divided, freed, step, eliminated_from}
 
 -- ---- what holds of each
 
@@ -112,7 +112,6 @@ found j (l ∷ ls) row h = bool_cases (may_pivot j l) here (λ e. later e (found
       passed = (e, f.passed);
       put = λ p. with_pivot-later j p l ls e ∙ ap (λ s. l ∷ s) (f.put p);
     }
-
 
 pub not_found : (j : ℕ) (ls : List Line) → pivot_row j ls ≡ None → AllByRecursion (λ l. may_pivot j l ≡ false) ls
 not_found j [] h = tt

@@ -1,21 +1,21 @@
 -- The shape of the lines of an elimination: 1 at each pivot, 0 in the other rows of its column, and 0 in the rows that are not used.
-use Rattle.std.proofs.Common.{◌≡◌, ◌≢◌, ℕ, zero, suc, ◌<◌, ◌==◌, List, [], ◌∷◌, ◌++◌, map, length, Option, Some, None, Bool, true, false, not, ◌&&◌, sym, ap, ◌∙◌, subst, refl, arith, eq-eqb, inl, inr}
-use Rattle.std.specs.Prelude.{◌⊎◌, option_map, if◌then◌else◌}
+use Rattle.std.proofs.Common.{◌≡◌, ◌≢◌, ℕ, zero, suc, ◌<◌, ◌==◌, List, [], ◌∷◌, ◌++◌, map, length, Option, Some, None, Bool, true, false, not, ◌&&◌, sym, ap, ◌∙◌, subst, refl, arith, eq-eqb}
+use Rattle.std.specs.Prelude.{option_map}
 use Rattle.std.specs.List.{AllByRecursion}
 use Rattle.std.proofs.lemmas.Bool.Decides.{nat_tests}
 use Rattle.algebra.proofs.Ring as laws
-use Rattle.algebra.proofs.Polynomial.{minus, ◌⊕◌, ◌⊝◌, ◌⊗◌, ◌≐◌, lit}
+use Rattle.algebra.proofs.Polynomial.{minus, ◌⊕◌, ◌⊗◌, ◌≐◌, lit}
 use Rattle.algebra.proofs.Solver.{ring}
-use Rattle.rational.specs.Rational.{ℚ, zero_ℚ, one_ℚ, ◌+ℚ◌, ◌*ℚ◌, ◌/ℚ◌, neg_ℚ, reciprocal}
+use Rattle.rational.specs.Rational.{ℚ, zero_ℚ, one_ℚ, ◌+ℚ◌, ◌*ℚ◌, neg_ℚ, reciprocal}
 use Rattle.rational.specs.Order.{same_fields, same_fields_lem, differ_of_same_fields}
 use Rattle.rational.specs.Sums.{entry}
-use Rattle.rational.specs.Vectors.{dot, add_each, scale}
+use Rattle.rational.specs.Vectors.{add_each, scale}
 use Rattle.rational.proofs.Field.{rationals, mul-reciprocal}
 use Rattle.rational.proofs.Vectors.{entry-add_each, entry-scale, length-scale}
 use Rattle.exact_matrix.specs.Elimination.{Line, unused, used, is_unused, is_pivot, may_pivot, pivot_row, divided, freed, step, eliminated}
 use Rattle.exact_matrix.specs.EliminationAnswers.{row_of_pivot}
 use Rattle.exact_matrix.specs.EliminationMeaning.{Shaped}
-use Rattle.exact_matrix.proofs.EliminationLines.{bool_cases, each_weaker, each_parts, step_each, Found, found, step-none, stepped, by_pivot_row, freed-pivot, freed-other, freed-used, eliminated_keeps_all, length-divided, length-freed}
+use Rattle.exact_matrix.proofs.EliminationLines.{bool_cases, each_weaker, each_parts, step_each, found, step-none, stepped, freed-pivot, freed-other, freed-used, eliminated_keeps_all, length-divided, length-freed}
 
 -- ---- tests
 
@@ -242,9 +242,10 @@ shaped-step w j ls h =
     step_each (Shaped w j ls) (Shaped w (suc j) (step j ls)) j ls
     (λ e l m s. subst (λ now. Shaped w (suc j) now l) (sym (step-none j ls e)) (shaped-stays w j ls l m s))
     (λ row e nz s.
-    let apart = none_yet w j ls h in
-    (shaped-used w j ls row e nz apart s,
-    λ l t. subst (Shaped w (suc j) (step j ls)) (sym (freed-other j (divided (entry row j) row) l (not_yet j l.pivot t.below))) (shaped-less w j ls row e nz apart s l t)))
+    let apart = none_yet w j ls h in (
+      shaped-used w j ls row e nz apart s,
+      λ l t. subst (Shaped w (suc j) (step j ls)) (sym (freed-other j (divided (entry row j) row) l (not_yet j l.pivot t.below))) (shaped-less w j ls row e nz apart s l t),
+    ))
     h
 
 no_rows : (c : ℕ) (rows : List (List ℚ)) → row_of_pivot c (map unused rows) ≡ None
@@ -253,15 +254,17 @@ no_rows c (row ∷ rows) = row_of_pivot-later c (unused row) (map unused rows) r
 
 pub shaped-first : (w : ℕ) (all rows : List (List ℚ)) → AllByRecursion (λ r. length r ≡ w) rows → AllByRecursion (Shaped w 0 (map unused all)) (map unused rows)
 shaped-first w all [] h = tt
-shaped-first w all (row ∷ rows) h =
-    (record {
-      width = h.0;
-      below = λ k e. some_not_none k (sym e);
-      one = λ k e. some_not_none k (sym e);
-      own = λ k e. some_not_none k (sym e);
-      cleared = λ e c b. absurd (omega arith);
-      other = λ c r e _. some_not_none r (sym e ∙ no_rows c all);
-    }, shaped-first w all rows h.1)
+shaped-first w all (row ∷ rows) h = (
+  record {
+    width = h.0;
+    below = λ k e. some_not_none k (sym e);
+    one = λ k e. some_not_none k (sym e);
+    own = λ k e. some_not_none k (sym e);
+    cleared = λ e c b. absurd (omega arith);
+    other = λ c r e _. some_not_none r (sym e ∙ no_rows c all);
+  },
+  shaped-first w all rows h.1,
+)
 
 pub shaped : (w n : ℕ) (rows : List (List ℚ)) → AllByRecursion (λ r. length r ≡ w) rows → AreShaped w n (eliminated n (map unused rows))
 shaped w n rows h = eliminated_keeps_all (AreShaped w) (shaped-step w) n (map unused rows) (shaped-first w rows rows h)

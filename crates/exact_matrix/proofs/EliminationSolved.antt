@@ -1,9 +1,9 @@
 -- The answer on M z = r: a solution solves it, and a refutation refutes it.
-use Rattle.std.proofs.Common.{◌≡◌, ◌≢◌, ℕ, zero, suc, ◌+◌, ◌<◌, ◌≤◌, ◌==◌, List, [], ◌∷◌, ◌++◌, map, length, take, drop, Option, Some, None, Bool, true, false, not, ◌&&◌, sym, ap, ◌∙◌, subst, refl, arith}
+use Rattle.std.proofs.Common.{◌≡◌, ◌≢◌, ℕ, zero, suc, ◌+◌, ◌<◌, ◌≤◌, List, [], ◌∷◌, length, take, drop, Option, Some, None, Bool, true, false, not, ◌&&◌, sym, ap, ◌∙◌, subst, refl, arith}
 use Rattle.std.specs.List.{AllByRecursion}
 use Rattle.std.proofs.lemmas.List.Elements.{recursion_from_All}
 use Rattle.algebra.proofs.Ring as laws
-use Rattle.algebra.proofs.Polynomial.{minus, ◌⊕◌, ◌⊝◌, ◌⊗◌, ◌≐◌, lit}
+use Rattle.algebra.proofs.Polynomial.{minus, ◌⊕◌, ◌⊗◌, ◌≐◌, lit}
 use Rattle.algebra.proofs.Solver.{ring}
 use Rattle.algebra.proofs.Certificate.{prove, given, ◌⇐◌}
 use Rattle.rational.specs.Rational.{ℚ, zero_ℚ, one_ℚ, ◌+ℚ◌, ◌*ℚ◌, neg_ℚ}
@@ -12,13 +12,13 @@ use Rattle.rational.specs.Sums.{entry}
 use Rattle.rational.specs.Vectors.{dot, add_each, scale, zeros, HasColumns, rows_dot, combine}
 use Rattle.rational.proofs.Field.{rationals}
 use Rattle.rational.proofs.Order.{ordered_rationals}
-use Rattle.rational.proofs.Vectors.{length-zeros, length-scale, length-rows_dot, length-combine, dot_comm, dot-zeros_left, dot-zeros_right, dot-scale_right, same_by_dot, zeros_by_entries, transpose, entry-zeros}
+use Rattle.rational.proofs.Vectors.{length-zeros, length-scale, length-rows_dot, length-combine, dot_comm, dot-zeros_left, dot-zeros_right, dot-scale_right, same_by_dot, zeros_by_entries, transpose}
 use Rattle.exact_matrix.specs.Elimination.{Line, unused, is_unused, is_pivot, may_pivot, pivot_row, eliminated}
-use Rattle.exact_matrix.specs.EliminationAnswers.{right_beside, unit_matrix, beside, solve_rows, lines_of, row_of_pivot, entry_in, solution_from, Answer, Solution, Refutation, answer_by, answer_of, solved}
+use Rattle.exact_matrix.specs.EliminationAnswers.{right_beside, unit_matrix, solve_rows, lines_of, row_of_pivot, entry_in, solution_from, answer_by, solved}
 use Rattle.exact_matrix.specs.EliminationMeaning.{Shaped, IsCombined, Solves, Refutes, IsRight}
-use Rattle.exact_matrix.proofs.EliminationLines.{each_both, each_weaker, each_parts, each_all, Found, found, not_found, HasWidth}
-use Rattle.exact_matrix.proofs.EliminationPivots.{AreShaped, shaped, other_column, differs, column_cases}
-use Rattle.exact_matrix.proofs.EliminationVectors.{entry-take, length-front, length-back, drop-entry, dot-one_place, length-unit_rows, width-unit_rows, rows_dot-unit, length-right_beside, width-right_beside, rows_dot-right_beside, width-beside, zero_and_less, one_less_one, same_of_difference, rows_dot-zeros}
+use Rattle.exact_matrix.proofs.EliminationLines.{each_both, each_weaker, each_parts, each_all, found, not_found}
+use Rattle.exact_matrix.proofs.EliminationPivots.{AreShaped, shaped, other_column}
+use Rattle.exact_matrix.proofs.EliminationVectors.{entry-take, length-front, length-back, drop-entry, dot-one_place, length-unit_rows, width-unit_rows, rows_dot-unit, length-right_beside, width-right_beside, rows_dot-right_beside, width-beside, zero_and_less, one_less_one, same_of_difference, same_beside_zero, rows_dot-zeros}
 use Rattle.exact_matrix.proofs.EliminationTailed as tailed
 
 -- ---- the vector of the solution
@@ -64,8 +64,8 @@ used_row_holds w n i ls l k s e =
     let z = solution_from n 0 i ls in
     let b = s.below k e in
     dot-one_place k (take n l.entries) z (λ c l1 d.
-      let c_below : c < n = subst (λ t. c < t) (length-solution_from n 0 i ls) l1 in
-      ap (λ t. t *ℚ entry z c) (entry-take n l.entries c c_below) ∙ ap (λ t. entry l.entries c *ℚ t) (entry-solution n i ls c c_below) ∙ off_pivot w n i ls l k c s e d)
+    let c_below : c < n = subst (λ t. c < t) (length-solution_from n 0 i ls) l1 in
+    ap (λ t. t *ℚ entry z c) (entry-take n l.entries c c_below) ∙ ap (λ t. entry l.entries c *ℚ t) (entry-solution n i ls c c_below) ∙ off_pivot w n i ls l k c s e d)
     ∙ ap (λ t. t *ℚ entry z k) (entry-take n l.entries k b ∙ s.one k e)
     ∙ ap (λ t. one_ℚ *ℚ t) (entry-solution n i ls k b ∙ ap (λ o. entry_in o i) (s.own k e))
     ∙ ring rationals (entry l.entries i ∷ []) (λ x. lit 1 ⊗ x ≐ x) refl
@@ -146,9 +146,9 @@ module _ (n : ℕ) (M : List (List ℚ)) (r : List ℚ) (columns : HasColumns n 
   back z t u e f h =
       ap (add_each (rows_dot M z)) (sym (tail t u f))
       ∙ tailed.back n (suc m) M X m_width x_width heights z (t ∷ u) e
-        (each_weaker (λ l. (length l.entries ≡ w) × Gives z t u l) (λ l. dot (take n l.entries) z +ℚ dot (drop n l.entries) (t ∷ u) ≡ zero_ℚ) final
-        (λ l s. three_parts l z t u s.0 ∙ s.1)
-        (each_both (λ l. length l.entries ≡ w) (Gives z t u) final (tailed.kernel n (suc m) M X m_width x_width heights []).width h))
+      (each_weaker (λ l. (length l.entries ≡ w) × Gives z t u l) (λ l. dot (take n l.entries) z +ℚ dot (drop n l.entries) (t ∷ u) ≡ zero_ℚ) final
+      (λ l s. three_parts l z t u s.0 ∙ s.1)
+      (each_both (λ l. length l.entries ≡ w) (Gives z t u) final (tailed.kernel n (suc m) M X m_width x_width heights []).width h))
 
   -- what a row has before column n is a combination of the rows of M, by its part under the unit matrix
   pub front_is : (z : List ℚ) → length z ≡ n → AllByRecursion (λ l. dot (take n l.entries) z ≡ dot (drop (suc n) l.entries) (rows_dot M z)) final
@@ -169,7 +169,7 @@ module _ (n : ℕ) (M : List (List ℚ)) (r : List ℚ) (columns : HasColumns n 
       let u = scale (neg_ℚ one_ℚ) r in
       each_weaker (Gives (zeros n) one_ℚ u) (λ l. entry l.entries n ≡ dot (drop (suc n) l.entries) r) final
       (λ l h. less_is (dot (take n l.entries) (zeros n)) (entry l.entries n) (dot (drop (suc n) l.entries) r) (dot (drop (suc n) l.entries) u)
-        (dot-zeros_right (take n l.entries) n) (dot-scale_right (drop (suc n) l.entries) (neg_ℚ one_ℚ) r) h)
+      (dot-zeros_right (take n l.entries) n) (dot-scale_right (drop (suc n) l.entries) (neg_ℚ one_ℚ) r) h)
       (there (zeros n) one_ℚ u (length-zeros n) (length-scale (neg_ℚ one_ℚ) r ∙ sides)
       (ap (λ a. add_each a (add_each (scale one_ℚ r) u)) (rows_dot-zeros M n ∙ ap zeros (sym sides)) ∙ one_less_one r ∙ ap zeros sides))
     where
@@ -200,7 +200,7 @@ module _ (n : ℕ) (M : List (List ℚ)) (r : List ℚ) (columns : HasColumns n 
           record {
             size = length-back (suc n) l.entries m (s.width ∙ at n (length M));
             front = same_by_dot (take n l.entries) (combine n y M) (g ∙ sym (length-combine n y M columns)) (λ z k.
-              dot_comm z (take n l.entries) ∙ f z (k ∙ g) ∙ transpose n y M z columns ∙ dot_comm (combine n y M) z);
+                dot_comm z (take n l.entries) ∙ f z (k ∙ g) ∙ transpose n y M z columns ∙ dot_comm (combine n y M) z);
             right = e;
           }
 
@@ -210,14 +210,29 @@ module _ (n : ℕ) (M : List (List ℚ)) (r : List ℚ) (columns : HasColumns n 
       same_of_difference (rows_dot M z) r (length-rows_dot M z ∙ sym sides)
       (ap (λ k. add_each (rows_dot M z) (add_each (scale (neg_ℚ one_ℚ) r) (zeros k))) sides
       ∙ back z (neg_ℚ one_ℚ) (zeros m) e (length-zeros m)
-        (each_weaker (λ l. dot (take n l.entries) z ≡ entry l.entries n) (Gives z (neg_ℚ one_ℚ) (zeros m)) final
-        (λ l f. none_left (dot (take n l.entries) z) (entry l.entries n) (dot (drop (suc n) l.entries) (zeros m)) f (dot-zeros_right (drop (suc n) l.entries) m)) h)
+      (each_weaker (λ l. dot (take n l.entries) z ≡ entry l.entries n) (Gives z (neg_ℚ one_ℚ) (zeros m)) final
+      (λ l f. none_left (dot (take n l.entries) z) (entry l.entries n) (dot (drop (suc n) l.entries) (zeros m)) f (dot-zeros_right (drop (suc n) l.entries) m)) h)
       ∙ ap zeros (sym (length-rows_dot M z)))
     where
       none_left : (d x u : ℚ) → d ≡ x → u ≡ zero_ℚ → d +ℚ (x *ℚ neg_ℚ one_ℚ +ℚ u) ≡ zero_ℚ
       none_left d x u f g =
           ap (λ t. t +ℚ (x *ℚ neg_ℚ one_ℚ +ℚ u)) f ∙ ap (λ t. x +ℚ (x *ℚ neg_ℚ one_ℚ +ℚ t)) g
           ∙ ring rationals (x ∷ []) (λ x. x ⊕ (x ⊗ minus (lit 1) ⊕ lit 0) ≐ lit 0) refl
+
+  -- what each row gives of v, M gives
+  pub rows_give : (z v : List ℚ) → length z ≡ n → length v ≡ length M → AllByRecursion (λ l. dot (take n l.entries) z ≡ dot (drop (suc n) l.entries) v) final → rows_dot M z ≡ v
+  rows_give z v e f h =
+      let u = scale (neg_ℚ one_ℚ) v in
+      same_beside_zero (rows_dot M z) r v (length-rows_dot M z ∙ sym sides) (length-rows_dot M z ∙ sym f)
+      (back z zero_ℚ u e (length-scale (neg_ℚ one_ℚ) v ∙ f)
+      (each_weaker (λ l. dot (take n l.entries) z ≡ dot (drop (suc n) l.entries) v) (Gives z zero_ℚ u) final
+      (λ l g. none_left (dot (take n l.entries) z) (entry l.entries n) (dot (drop (suc n) l.entries) v) (dot (drop (suc n) l.entries) u) g (dot-scale_right (drop (suc n) l.entries) (neg_ℚ one_ℚ) v)) h)
+      ∙ ap zeros (sym (length-rows_dot M z)))
+    where
+      none_left : (d x b u : ℚ) → d ≡ b → u ≡ neg_ℚ one_ℚ *ℚ b → d +ℚ (x *ℚ zero_ℚ +ℚ u) ≡ zero_ℚ
+      none_left d x b u g f =
+          ap (λ t. t +ℚ (x *ℚ zero_ℚ +ℚ u)) g ∙ ap (λ t. b +ℚ (x *ℚ zero_ℚ +ℚ t)) f
+          ∙ ring rationals (x ∷ b ∷ []) (λ x b. b ⊕ (x ⊗ lit 0 ⊕ minus (lit 1) ⊗ b) ≐ lit 0) refl
 
   -- where no row refutes, the solution solves
   pub solution_solves : pivot_row n final ≡ None → rows_dot M (solution_from n 0 n final) ≡ r

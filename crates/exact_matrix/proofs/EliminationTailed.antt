@@ -1,13 +1,12 @@
 -- The elimination of M with columns X beside it: what its rows give of vectors in two parts.
-use Rattle.std.proofs.Common.{◌≡◌, ◌≢◌, ℕ, zero, suc, ◌+◌, ◌<◌, ◌≤◌, List, [], ◌∷◌, ◌++◌, map, length, take, drop, sym, ap, ◌∙◌, subst, refl, arith}
+use Rattle.std.proofs.Common.{◌≡◌, ℕ, ◌+◌, List, [], ◌∷◌, ◌++◌, length, take, drop, sym, ◌∙◌, arith}
 use Rattle.std.specs.List.{AllByRecursion}
-use Rattle.rational.specs.Rational.{ℚ, zero_ℚ, ◌+ℚ◌, ◌*ℚ◌}
-use Rattle.rational.specs.Sums.{entry}
-use Rattle.rational.specs.Vectors.{dot, add_each, scale, zeros, rows_dot}
+use Rattle.rational.specs.Rational.{ℚ, zero_ℚ, ◌+ℚ◌}
+use Rattle.rational.specs.Vectors.{dot, add_each, zeros, rows_dot}
 use Rattle.exact_matrix.specs.Elimination.{Line, eliminated}
 use Rattle.exact_matrix.specs.EliminationAnswers.{beside, lines_of}
 use Rattle.exact_matrix.proofs.EliminationLines.{each_both, each_weaker, HasWidth}
-use Rattle.exact_matrix.proofs.EliminationKernel.{Kills, SameKernel, same_kernel}
+use Rattle.exact_matrix.proofs.EliminationKernel.{SameKernel, same_kernel}
 use Rattle.exact_matrix.proofs.EliminationVectors.{dot-split, width-beside, kills-beside, killed-beside}
 
 pub width-lines : (w : ℕ) (rows : List (List ℚ)) → AllByRecursion (λ r. length r ≡ w) rows → HasWidth w (lines_of rows)

@@ -1,16 +1,16 @@
 -- Rows in two parts, and the products with them.
-use Rattle.std.proofs.Common.{◌≡◌, ◌≢◌, ℕ, zero, suc, ◌+◌, ◌<◌, ◌≤◌, List, [], ◌∷◌, ◌++◌, map, length, take, drop, sym, ap, ◌∙◌, subst, refl, arith, length-append}
+use Rattle.std.proofs.Common.{◌≡◌, ◌≢◌, ℕ, zero, suc, ◌+◌, ◌<◌, ◌≤◌, List, [], ◌∷◌, ◌++◌, length, take, drop, sym, ap, ◌∙◌, refl, arith, length-append}
 use Rattle.std.specs.List.{AllByRecursion}
 use Rattle.algebra.proofs.Ring as laws
-use Rattle.algebra.proofs.Polynomial.{minus, ◌⊕◌, ◌⊝◌, ◌⊗◌, ◌≐◌, lit}
+use Rattle.algebra.proofs.Polynomial.{minus, ◌⊕◌, ◌⊗◌, ◌≐◌, lit}
 use Rattle.algebra.proofs.Solver.{ring}
 use Rattle.algebra.proofs.Certificate.{prove, given, ◌⇐◌}
 use Rattle.rational.specs.Rational.{ℚ, zero_ℚ, one_ℚ, ◌+ℚ◌, ◌*ℚ◌, neg_ℚ}
 use Rattle.rational.specs.Sums.{entry}
-use Rattle.rational.specs.Vectors.{dot, add_each, scale, zeros, unit_vector, rows_dot}
+use Rattle.rational.specs.Vectors.{dot, add_each, scale, zeros, rows_dot}
 use Rattle.rational.proofs.Field.{rationals}
 use Rattle.rational.proofs.Order.{ordered_rationals}
-use Rattle.rational.proofs.Vectors.{dot-append, dot-zeros_right, dot-unit_vector, length-unit_vector, length-rows_dot, same_by_entries, zeros_by_entries}
+use Rattle.rational.proofs.Vectors.{dot-append, dot-zeros_right, dot-unit_vector, length-unit_vector, length-rows_dot, same_by_entries}
 use Rattle.exact_matrix.specs.EliminationAnswers.{beside, right_beside, unit_rows, unit_matrix, lines_of}
 use Rattle.exact_matrix.proofs.EliminationKernel.{Kills}
 
@@ -167,6 +167,20 @@ same_of_difference (x ∷ a) [] h k = absurd (omega arith)
 same_of_difference (x ∷ a) (y ∷ r) h k =
     let t = apart (x +ℚ (neg_ℚ one_ℚ *ℚ y +ℚ zero_ℚ)) zero_ℚ (add_each a (add_each (scale (neg_ℚ one_ℚ) r) (zeros (length r)))) (zeros (length a)) k in
     ap (λ s. s ∷ a) (prove ordered_rationals (x ∷ y ∷ []) (λ x y. x ≐ y ⇐ given (x ⊕ (minus (lit 1) ⊗ y ⊕ lit 0) ≐ lit 0)) refl t.0) ∙ ap (λ s. y ∷ s) (same_of_difference a r (omega arith) t.1)
+  where
+    apart : (a b : ℚ) (u v : List ℚ) → a ∷ u ≡ b ∷ v → (a ≡ b) × (u ≡ v)
+    apart a b u v k = (cc, cc)
+
+-- where a + (0 r - u) is 0, a is u
+pub same_beside_zero : (a r u : List ℚ) → length a ≡ length r → length a ≡ length u → add_each a (add_each (scale zero_ℚ r) (scale (neg_ℚ one_ℚ) u)) ≡ zeros (length a) → a ≡ u
+same_beside_zero [] r [] h l k = refl
+same_beside_zero [] r (z ∷ u) h l k = absurd (omega arith)
+same_beside_zero (x ∷ a) [] u h l k = absurd (omega arith)
+same_beside_zero (x ∷ a) (y ∷ r) [] h l k = absurd (omega arith)
+same_beside_zero (x ∷ a) (y ∷ r) (z ∷ u) h l k =
+    let t = apart (x +ℚ (zero_ℚ *ℚ y +ℚ neg_ℚ one_ℚ *ℚ z)) zero_ℚ (add_each a (add_each (scale zero_ℚ r) (scale (neg_ℚ one_ℚ) u))) (zeros (length a)) k in
+    ap (λ s. s ∷ a) (prove ordered_rationals (x ∷ y ∷ z ∷ []) (λ x y z. x ≐ z ⇐ given (x ⊕ (lit 0 ⊗ y ⊕ minus (lit 1) ⊗ z) ≐ lit 0)) refl t.0)
+    ∙ ap (λ s. z ∷ s) (same_beside_zero a r u (omega arith) (omega arith) t.1)
   where
     apart : (a b : ℚ) (u v : List ℚ) → a ∷ u ≡ b ∷ v → (a ≡ b) × (u ≡ v)
     apart a b u v k = (cc, cc)

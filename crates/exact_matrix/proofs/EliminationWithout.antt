@@ -1,6 +1,6 @@
 -- A column beside the eliminated ones acts on no other: left out before or after, the elimination is the same, and its operations are
 -- among those with that column.
-use Rattle.std.proofs.Common.{◌≡◌, ◌≢◌, ℕ, zero, suc, ◌+◌, ◌<◌, ◌≤◌, List, [], ◌∷◌, ◌++◌, map, length, Option, Some, None, Bool, true, false, not, ◌&&◌, ◌||◌, sym, ap, ◌∙◌, subst, refl, arith, ⊎_elim}
+use Rattle.std.proofs.Common.{◌≡◌, ℕ, zero, suc, ◌+◌, ◌<◌, ◌≤◌, List, [], ◌∷◌, ◌++◌, map, length, Some, None, not, ◌&&◌, ◌||◌, sym, ap, ◌∙◌, subst, refl, arith, ⊎_elim}
 use Rattle.std.specs.Prelude.{option_map}
 use Rattle.std.specs.List.{AllByRecursion, Contains}
 use Rattle.std.proofs.lemmas.List.Elements.{recursion_from_All, All-from_recursion, Contains-append_left, Contains-append_right, Contains-append_cases}
@@ -8,17 +8,16 @@ use Rattle.rational.specs.Rational.{ℚ, zero_ℚ, ◌+ℚ◌, ◌*ℚ◌, ◌/�
 use Rattle.rational.specs.Order.{same_fields}
 use Rattle.rational.specs.Sums.{entry}
 use Rattle.rational.specs.Vectors.{add_each, scale, HasColumns}
-use Rattle.rational.proofs.Vectors.{length-scale}
 use Rattle.frac_core.specs.declared.fractions.Op.TheVariants.{Sub, Mul, Div}
 use Rattle.frac_core.specs.declared.fractions.Refused.{Refused}
-use Rattle.exact_matrix.specs.Elimination.{Line, unused, used, is_pivot, is_unused, may_pivot, pivot_row, with_pivot, divided, freed, step, eliminated, eliminated_from}
+use Rattle.exact_matrix.specs.Elimination.{Line, unused, is_pivot, is_unused, may_pivot, pivot_row, with_pivot, divided, freed, step, eliminated, eliminated_from}
 use Rattle.exact_matrix.specs.EliminationAnswers.{beside, right_beside, unit_matrix, solve_rows, invert_rows, lines_of, row_of_pivot}
 use Rattle.exact_matrix.specs.EliminationOperations.{operation, division_ops, less_ops, freed_ops, each_freed_ops, step_ops, ops_from, elimination_ops}
 use Rattle.exact_matrix.specs.EliminationTails.{without, line_without}
 use Rattle.exact_matrix.proofs.EliminationPivots.{row_of_pivot-none, row_of_pivot-here, row_of_pivot-later}
 use Rattle.exact_matrix.proofs.EliminationVectors.{length-unit_rows, width-unit_rows, width-right_beside, width-beside}
-use Rattle.exact_matrix.proofs.EliminationLines.{bool_cases, pivot_row-none, pivot_row-here, pivot_row-later, with_pivot-here, with_pivot-later, step-none, step-some, freed-pivot, freed-other, by_pivot_row, eliminated-end, eliminated-more, HasWidth, length-divided, width-step, width-with_pivot, width-lines_of}
-use Rattle.exact_matrix.proofs.EliminationCalculated.{division_ops-end, division_ops-zero, division_ops-more, less_ops-end, less_ops-zero, less_ops-more, freed_ops-stays, freed_ops-changes, each_freed_ops-end, each_freed_ops-more, step_ops-none, step_ops-some, ops_from-end, ops_from-more}
+use Rattle.exact_matrix.proofs.EliminationLines.{bool_cases, pivot_row-none, pivot_row-here, pivot_row-later, with_pivot-here, with_pivot-later, step-none, step-some, freed-pivot, freed-other, by_pivot_row, eliminated-end, eliminated-more, HasWidth, width-step, width-with_pivot, width-lines_of}
+use Rattle.exact_matrix.proofs.EliminationCalculated.{division_ops-zero, division_ops-more, less_ops-end, less_ops-zero, less_ops-more, freed_ops-stays, freed_ops-changes, each_freed_ops-end, each_freed_ops-more, step_ops-none, step_ops-some, ops_from-end, ops_from-more}
 
 -- ---- a row without an entry
 
@@ -66,7 +65,7 @@ freed-without i j p l h e = bool_cases (is_pivot j l.pivot)
     (λ a.
     freed-other j (without i p) (line_without i l) a
     ∙ ap (λ (s : List ℚ). record { pivot = l.pivot; entries = s })
-      (ap (λ x. add_each (without i l.entries) (scale (neg_ℚ x) (without i p))) (entry-without i l.entries j h) ∙ less-without (neg_ℚ (entry l.entries j)) i l.entries p e)
+    (ap (λ x. add_each (without i l.entries) (scale (neg_ℚ x) (without i p))) (entry-without i l.entries j h) ∙ less-without (neg_ℚ (entry l.entries j)) i l.entries p e)
     ∙ ap (line_without i) (sym (freed-other j p l a)))
 
 freed_each-without : (i j : ℕ) (p : List ℚ) (ls : List Line) → j < i → AllByRecursion (λ l. length l.entries ≡ length p) ls
@@ -142,7 +141,7 @@ division-within q (suc i) (x ∷ row) =
     bool_cases (same_fields x zero_ℚ)
     (λ e. within_same _ _ _ _ (division_ops-zero q x (without i row) e) (division_ops-zero q x row e) rest)
     (λ e. within_same _ _ _ _ (division_ops-more q x (without i row) e) (division_ops-more q x row e)
-      (within_both (operation Div x q ∷ []) (division_ops q (without i row)) (operation Div x q ∷ []) (division_ops q row) (within_itself (operation Div x q ∷ [])) rest))
+    (within_both (operation Div x q ∷ []) (division_ops q (without i row)) (operation Div x q ∷ []) (division_ops q row) (within_itself (operation Div x q ∷ [])) rest))
 
 less-within : (f : ℚ) (i : ℕ) (row p : List ℚ) → length row ≡ length p → IsWithin (less_ops f (without i row) (without i p)) (less_ops f row p)
 less-within f i [] p h = within_same _ _ _ _ (less_ops-end f (without i p)) refl (within_nothing (less_ops f [] p))
@@ -156,7 +155,7 @@ less-within f (suc i) (x ∷ row) (y ∷ p) h =
     bool_cases (same_fields y zero_ℚ)
     (λ e. within_same _ _ _ _ (less_ops-zero f x y (without i row) (without i p) e) (less_ops-zero f x y row p e) rest)
     (λ e. within_same _ _ _ _ (less_ops-more f x y (without i row) (without i p) e) (less_ops-more f x y row p e)
-      (within_both os (less_ops f (without i row) (without i p)) os (less_ops f row p) (within_itself os) rest))
+    (within_both os (less_ops f (without i row) (without i p)) os (less_ops f row p) (within_itself os) rest))
 
 freed-within : (i j : ℕ) (p : List ℚ) (l : Line) → j < i → length l.entries ≡ length p → IsWithin (freed_ops j (without i p) (line_without i l)) (freed_ops j p l)
 freed-within i j p l h e =
@@ -165,8 +164,8 @@ freed-within i j p l h e =
     bool_cases (is_pivot j l.pivot || same_fields (entry l.entries j) zero_ℚ)
     (λ a. within_same _ _ _ _ (freed_ops-stays j (without i p) (line_without i l) (same ∙ a)) refl (within_nothing (freed_ops j p l)))
     (λ a. within_same _ _ _ _
-      (freed_ops-changes j (without i p) (line_without i l) (same ∙ a) ∙ ap (λ f. less_ops f (without i l.entries) (without i p)) (entry-without i l.entries j h))
-      (freed_ops-changes j p l a) (less-within (entry l.entries j) i l.entries p e))
+    (freed_ops-changes j (without i p) (line_without i l) (same ∙ a) ∙ ap (λ f. less_ops f (without i l.entries) (without i p)) (entry-without i l.entries j h))
+    (freed_ops-changes j p l a) (less-within (entry l.entries j) i l.entries p e))
 
 each_freed-within : (i j : ℕ) (p : List ℚ) (ls : List Line) → j < i → AllByRecursion (λ l. length l.entries ≡ length p) ls
     → IsWithin (each_freed_ops j (without i p) (map (line_without i) ls)) (each_freed_ops j p ls)
@@ -254,3 +253,8 @@ row_of_pivot-without i c (l ∷ ls) = bool_cases (is_pivot c l.pivot)
 pub pivots_are : (n : ℕ) (M : List (List ℚ)) (r : List ℚ) (c : ℕ) → HasColumns n M → length r ≡ length M
     → row_of_pivot c (eliminated n (lines_of (invert_rows M))) ≡ option_map (without n) (row_of_pivot c (eliminated n (lines_of (solve_rows M r))))
 pivots_are n M r c h e = ap (row_of_pivot c) (invert_lines_are n M r h e) ∙ row_of_pivot-without n c (eliminated n (lines_of (solve_rows M r)))
+
+pub invert_rows_width : (n : ℕ) (M : List (List ℚ)) → HasColumns n M → HasColumns (n + length M) (invert_rows M)
+invert_rows_width n M h =
+    All-from_recursion (λ row. length row ≡ n + length M) (invert_rows M)
+    (width-beside n (length M) M (unit_matrix (length M)) (recursion_from_All (λ row. length row ≡ n) M h) (width-unit_rows (length M) 0 (length M)))

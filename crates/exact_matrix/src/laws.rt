@@ -1,7 +1,7 @@
 //! The laws of the elimination. Each is the contract of a function that does nothing.
 
-ghost use Rattle.exact_matrix.specs.Elimination.{eliminated};
-ghost use Rattle.exact_matrix.specs.EliminationAnswers.{Solution, inverse, invert_rows, lines_of, solve_rows, solved};
+ghost use Rattle.exact_matrix.specs.Elimination.{Line, eliminated};
+ghost use Rattle.exact_matrix.specs.EliminationAnswers.{Solution, inverse, invert_rows, lines_of, row_of_pivot, solve_rows, solved};
 ghost use Rattle.exact_matrix.specs.EliminationCalculation.{eliminated_in, ended};
 ghost use Rattle.exact_matrix.specs.EliminationMeaning.{Depends, IsCombined, IsFree, IsInverse, IsInverseOrDepends, IsRight, Refutes, Shaped, Solves};
 ghost use Rattle.exact_matrix.specs.EliminationOperations.{elimination_ops, first_past};
@@ -12,21 +12,25 @@ ghost use Rattle.rational.specs.Rational.{ℚ, zero_ℚ, Fits};
 ghost use Rattle.rational.specs.Sums.{entry};
 ghost use Rattle.rational.specs.Vectors.{HasColumns, dot, rows_dot, zeros};
 ghost use Rattle.std.specs.List.{All, Contains};
-ghost use Rattle.std.specs.Prelude.{◌≡◌, ◌<◌, ◌≤◌, ◌↔◌, ℕ, List, length, map, None, Some};
+ghost use Rattle.std.specs.Prelude.{◌≡◌, ◌<◌, ◌≤◌, ◌↔◌, ℕ, suc, List, length, map, take, drop, option_map, None, Some, Ok, Err};
 
 /// The calculation ends with the first operation of the list whose result has a part above the
 /// greatest, and with the exact lines where there is none.
 pub fn elimination_ends_with_its_first_refusal()
     ensures calculation { (top n w : ℕ) (rows : List (List ℚ)) → HasColumns w rows → eliminated_in top n (lines_of rows) ≡ ended (first_past top (elimination_ops n (lines_of rows))) (eliminated n (lines_of rows)) }
+    ensures exact { (top n w : ℕ) (rows : List (List ℚ)) (ls : List Line) → HasColumns w rows → eliminated_in top n (lines_of rows) ≡ Ok ls → ls ≡ eliminated n (lines_of rows) }
+    ensures refused { (top n w : ℕ) (rows : List (List ℚ)) (r : Refused) → HasColumns w rows → eliminated_in top n (lines_of rows) ≡ Err r → Contains (elimination_ops n (lines_of rows)) r × ¬ (Fits top (exact_of r.op r.left r.right)) }
     ensures found { (top : ℕ) (ops : List Refused) (r : Refused) → first_past top ops ≡ Some r → Contains ops r × ¬ (Fits top (exact_of r.op r.left r.right)) }
     ensures missing { (top : ℕ) (ops : List Refused) → first_past top ops ≡ None → All (λ r. Fits top (exact_of r.op r.left r.right)) ops }
 {}
 
-/// Each row of an elimination is its own combination of the given rows, and the rows have the same
-/// products 0 as the given ones. So `M z = r` has the solutions that the rows at the end have.
+/// Each row of an elimination is its own combination of the given rows; the rows give 0 of the same
+/// vectors as the given ones; and for every right side v, `M z = v` has the solutions that the rows
+/// at the end have.
 pub fn elimination_combines_rows()
     ensures combined { (n : ℕ) (M : List (List ℚ)) (r : List ℚ) → HasColumns n M → length r ≡ length M → All (λ l. IsCombined n M r l.entries) (eliminated n (lines_of (solve_rows M r))) }
     ensures kernel { (n w : ℕ) (rows : List (List ℚ)) (v : List ℚ) → HasColumns w rows → All (λ row. dot row v ≡ zero_ℚ) rows ↔ All (λ l. dot l.entries v ≡ zero_ℚ) (eliminated n (lines_of rows)) }
+    ensures solutions { (n : ℕ) (M : List (List ℚ)) (r z v : List ℚ) → HasColumns n M → length r ≡ length M → length z ≡ n → length v ≡ length M → (rows_dot M z ≡ v) ↔ All (λ l. dot (take n l.entries) z ≡ dot (drop (suc n) l.entries) v) (eliminated n (lines_of (solve_rows M r))) }
 {}
 
 /// The rows at the end are 1 at each pivot, 0 in the other rows of its column, and 0 in the
@@ -64,5 +68,6 @@ pub fn columns_beside_act_alone()
     ensures lines { (n w i : ℕ) (rows : List (List ℚ)) → n ≤ i → HasColumns w rows → eliminated n (lines_of (map (without i) rows)) ≡ map (line_without i) (eliminated n (lines_of rows)) }
     ensures operations { (n w i : ℕ) (rows : List (List ℚ)) (r : Refused) → n ≤ i → HasColumns w rows → Contains (elimination_ops n (lines_of (map (without i) rows))) r → Contains (elimination_ops n (lines_of rows)) r }
     ensures invert_lines { (n : ℕ) (M : List (List ℚ)) (r : List ℚ) → HasColumns n M → length r ≡ length M → eliminated n (lines_of (invert_rows M)) ≡ map (line_without n) (eliminated n (lines_of (solve_rows M r))) }
+    ensures invert_pivots { (n : ℕ) (M : List (List ℚ)) (r : List ℚ) (c : ℕ) → HasColumns n M → length r ≡ length M → row_of_pivot c (eliminated n (lines_of (invert_rows M))) ≡ option_map (without n) (row_of_pivot c (eliminated n (lines_of (solve_rows M r)))) }
     ensures invert_operations { (n : ℕ) (M : List (List ℚ)) (r : List ℚ) (op : Refused) → HasColumns n M → length r ≡ length M → Contains (elimination_ops n (lines_of (invert_rows M))) op → Contains (elimination_ops n (lines_of (solve_rows M r))) op }
 {}
