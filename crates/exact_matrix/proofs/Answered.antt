@@ -1,6 +1,6 @@
 -- The answers on systems and inverses are those of the elimination, and right.
-use Rattle.std.proofs.Common.{◌≡◌, ℕ, suc, ◌+◌, ◌*◌, List, length, map, Option, Some, None, sym, ap, ◌∙◌, subst, refl, arith}
-use Rattle.std.specs.Prelude.{Result, Ok, Err}
+use Rattle.std.proofs.Common.{◌≡◌, ℕ, ◌*◌, List, length, map, Option, Some, None, sym, ap, ◌∙◌, subst, refl}
+use Rattle.std.specs.Prelude.{Ok, Err}
 use Rattle.std.specs.Option.{option_map}
 use Rattle.rational.specs.Rational.{ℚ}
 use Rattle.rational.specs.Vectors.{HasColumns}
@@ -14,7 +14,7 @@ use Rattle.exact_matrix.specs.EliminationMeaning.{IsRight, IsInverseOrDepends}
 use Rattle.exact_matrix.specs.EliminationOperations.{elimination_ops, first_past}
 use Rattle.exact_matrix.specs.Grid.{Grid, IsGrid, rows_of}
 use Rattle.exact_matrix.specs.State.{values}
-use Rattle.exact_matrix.specs.Systems.{IsPast, IsStop, IsStopOf, joined}
+use Rattle.exact_matrix.specs.Systems.{IsStop, IsStopOf, joined}
 use Rattle.exact_matrix.proofs.EliminationCalculated.{eliminated_in-is, first_past-found}
 use Rattle.exact_matrix.proofs.EliminationInverted.{inverse_or_depends}
 use Rattle.exact_matrix.proofs.EliminationSolved.{answer_is_right}
@@ -41,8 +41,8 @@ stopped : (top k n w : ℕ) (rows given : List (List ℚ)) (stop : Stop) → Has
 stopped top k n w rows given Memory h e f s = tt
 stopped top k n w rows given (Past r) h e f s =
     let first : first_past top (elimination_ops n (lines_of rows)) ≡ Some r =
-        ended_err (first_past top (elimination_ops n (lines_of rows))) (eliminated n (lines_of rows)) r
-        (sym (eliminated_in-is top n w rows h) ∙ ap (λ n. eliminated_in top n (lines_of rows)) (sym f) ∙ ap (λ g. eliminated_in top k (lines_of g)) (sym e) ∙ s) in
+    ended_err (first_past top (elimination_ops n (lines_of rows))) (eliminated n (lines_of rows)) r
+    (sym (eliminated_in-is top n w rows h) ∙ ap (λ n. eliminated_in top n (lines_of rows)) (sym f) ∙ ap (λ g. eliminated_in top k (lines_of g)) (sym e) ∙ s) in
     let found = first_past-found top (elimination_ops n (lines_of rows)) r first in
     record { first = first; stands = found.0; past = found.1 }
 

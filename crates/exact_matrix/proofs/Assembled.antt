@@ -5,7 +5,7 @@ use Rattle.std.specs.Option.{option_map, SomeIff}
 use Rattle.std.proofs.lemmas.List.{map-append, length-append, length-map, append-nil, take_more, take_at, drop_at, take_all, take_rest, take-map, drop-map, map_push}
 use Rattle.std.proofs.lemmas.List.Elements.{recursion_from_All, All-from_recursion}
 use Rattle.std.proofs.lemmas.Option.{slice_get-map, get_or_from_slice_get}
-use Rattle.std.specs.List.{All, AllByRecursion}
+use Rattle.std.specs.List.{AllByRecursion}
 use Rattle.rational.specs.Rational.{ℚ, zero_ℚ, one_ℚ}
 use Rattle.rational.specs.Sums.{entry}
 use Rattle.rational.specs.Vectors.{unit_vector, HasColumns}
@@ -17,7 +17,7 @@ use Rattle.exact_matrix.specs.State.{lines, state, values, IsPivotAt}
 use Rattle.exact_matrix.specs.Systems.{joined, IsPlaceOfPivot}
 use Rattle.exact_matrix.proofs.EliminationVectors.{length-unit_rows, width-unit_rows, length-right_beside, width-beside}
 use Rattle.exact_matrix.proofs.EliminationWithout.{solve_rows_width}
-use Rattle.exact_matrix.proofs.EliminationPivots.{same_column, differs, column_cases, other_column}
+use Rattle.exact_matrix.proofs.EliminationPivots.{same_column, differs}
 
 -- ---- a row of the unit matrix
 

@@ -4,7 +4,7 @@ use Rattle.std.proofs.Math.Seq.{take-add}
 use Rattle.std.proofs.Math.ListN.{set}
 use Rattle.std.proofs.Math.Nat.{mul-le-mul_right}
 use borrow.Rule.Slice.PartMut.{put_mid}
-use Rattle.std.proofs.lemmas.List.{drop-drop, drop-set-lt, drop-set-add, take-set-le, length-take-le, length-drop, take_at, drop_at, take-append-le, drop-append-le, length-append, get_or-take, get_or-drop, get_or-set_same, length-replicate, take-replicate, drop-replicate, with_items_is}
+use Rattle.std.proofs.lemmas.List.{drop-drop, drop-set-lt, drop-set-add, take-set-le, length-take-le, length-drop, take_at, drop_at, length-append, get_or-take, get_or-drop, get_or-set_same, length-replicate, take-replicate, drop-replicate, with_items_is}
 use Rattle.std.proofs.lemmas.Option.{slice_get_read}
 use Rattle.std.specs.Option.{SomeIff}
 use Rattle.std.specs.Vec.{with_items}

@@ -1,10 +1,10 @@
 -- The lines that the program holds, when a row or a pivot is written; and where the pivot row of a column is.
-use Rattle.std.proofs.Common.{◌≡◌, ◌≢◌, ℕ, Bool, true, false, zero, suc, ◌+◌, ◌-◌, ◌≤◌, ◌<◌, Option, Some, None, List, [], ◌∷◌, ◌++◌, length, map, take, drop, get_or, slice_get, sym, ap, ◌∙◌, refl, arith, add-one, append_assoc}
-use Rattle.std.specs.Prelude.{pos, Result, Ok, Err, not, ◌&&◌, ◌||◌}
+use Rattle.std.proofs.Common.{◌≡◌, ℕ, Bool, true, false, zero, suc, ◌+◌, ◌-◌, ◌≤◌, ◌<◌, Option, Some, None, List, [], ◌∷◌, ◌++◌, length, map, take, drop, get_or, slice_get, sym, ap, ◌∙◌, refl, arith, add-one, append_assoc}
+use Rattle.std.specs.Prelude.{Result, Ok, Err, not, ◌&&◌, ◌||◌}
 use Rattle.std.specs.Option.{option_map, is_some}
 use Rattle.std.proofs.Math.ListN.{set, drop_of_length-le}
-use Rattle.std.proofs.lemmas.List.{map-set, get_or-map, length-map, length-set, set_split, append-nil, take_all, take_more_set}
-use Rattle.std.proofs.lemmas.Option.{slice_get-map, get_or_from_slice_get, slice_get_within}
+use Rattle.std.proofs.lemmas.List.{map-set, length-map, length-set, append-nil, take_all, take_more_set}
+use Rattle.std.proofs.lemmas.Option.{slice_get-map, get_or_from_slice_get}
 use Rattle.rational.specs.Rational.{ℚ, zero_ℚ}
 use Rattle.rational.specs.Order.{same_fields}
 use Rattle.rational.specs.Sums.{entry}
@@ -13,7 +13,7 @@ use Rattle.frac_core.specs.declared.fractions.Refused.{Refused}
 use Rattle.exact_matrix.specs.Grid.{Grid, row_at, with_row}
 use Rattle.exact_matrix.specs.Elimination.{Line, used, is_pivot, is_unused, may_pivot, pivot_row, with_pivot}
 use Rattle.exact_matrix.specs.EliminationCalculation.{freed_in, each_freed_in, line_then, with_entries, divided_in, cleared_by, step_in_by, step_in, then_with, eliminated_from_in}
-use Rattle.exact_matrix.specs.State.{lines, state, IsLine, IsPivotAt, IsPivotPlace, IsSameShape}
+use Rattle.exact_matrix.specs.State.{lines, state, IsLine, IsPivotAt, IsSameShape}
 use Rattle.frac_core.specs.Row.{Row, Entries, Refusal, IsRow, row_less}
 use Rattle.exact_matrix.proofs.Passes.{drop_after_set}
 

@@ -1,4 +1,4 @@
-use Rattle.std.proofs.Common.{arith, ◌∙◌, ap}
+use Rattle.std.proofs.Common.{arith}
 use Rattle.exact_matrix.specs.Grid.{row_at}
 use Rattle.exact_matrix.specs.State.{state, values}
 use Rattle.exact_matrix.proofs.Assembled.{inverse_start, inverse_more, inverse_none, inverse_all, held_pivot, tail_pushed}

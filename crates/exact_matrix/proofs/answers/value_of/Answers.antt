@@ -1,7 +1,7 @@
 use Rattle.std.proofs.Common.{sym, ap, ◌∙◌}
 use Rattle.exact_matrix.specs.EliminationAnswers.{entry_in}
 use Rattle.exact_matrix.specs.Grid.{row_at}
-use Rattle.exact_matrix.specs.State.{state, values}
+use Rattle.exact_matrix.specs.State.{values}
 use Rattle.exact_matrix.proofs.Assembled.{held_pivot}
 use Rattle.exact_matrix.proofs.States.{entry_read}
 use Rattle.exact_matrix.proofs.answers.value_of.Goals as goal

@@ -14,16 +14,16 @@ pub of_rows-requires : goal.of_rows-requires
 of_rows-requires g c =
     let v = g.F.ExactField.value in
     (invert_assembled v c.args.m.now c.loop-i.entries.items c.rows-rows.result c.columns.result c.in_ok-width.width c.loop-i.i _ c.checked_add.result
-        c.requires c.rows-rows.ensures c.columns.ensures.value c.checked_add.ensures c.in_ok-width.ensures.ok_part c.loop-i-test.false c.loop-i.invariant).1
+    c.requires c.rows-rows.ensures c.columns.ensures.value c.checked_add.ensures c.in_ok-width.ensures.ok_part c.loop-i-test.false c.loop-i.invariant).1
 
 pub returns-clause-columns : goal.returns-clause-columns
 returns-clause-columns g c =
     let v = g.F.ExactField.value in
     ap (λ m. m.columns) c.of_rows.ensures ∙ (invert_assembled v c.args.m.now c.loop-i.entries.items c.rows-rows.result c.columns.result c.in_ok-width.width c.loop-i.i _ c.checked_add.result
-        c.requires c.rows-rows.ensures c.columns.ensures.value c.checked_add.ensures c.in_ok-width.ensures.ok_part c.loop-i-test.false c.loop-i.invariant).0
+    c.requires c.rows-rows.ensures c.columns.ensures.value c.checked_add.ensures c.in_ok-width.ensures.ok_part c.loop-i-test.false c.loop-i.invariant).0
 
 pub returns-clause-rows : goal.returns-clause-rows
 returns-clause-rows g c =
     let v = g.F.ExactField.value in
     ap (values v) c.of_rows.ensures ∙ (invert_assembled v c.args.m.now c.loop-i.entries.items c.rows-rows.result c.columns.result c.in_ok-width.width c.loop-i.i _ c.checked_add.result
-        c.requires c.rows-rows.ensures c.columns.ensures.value c.checked_add.ensures c.in_ok-width.ensures.ok_part c.loop-i-test.false c.loop-i.invariant).2
+    c.requires c.rows-rows.ensures c.columns.ensures.value c.checked_add.ensures c.in_ok-width.ensures.ok_part c.loop-i-test.false c.loop-i.invariant).2

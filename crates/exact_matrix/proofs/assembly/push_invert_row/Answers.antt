@@ -7,4 +7,4 @@ pub returns : goal.returns
 returns g c =
     let v = g.F.ExactField.value in
     on_ok_weaker c.push_unit.result (λ e. pushed_invert_row v c.args.entries.now.items (row_at c.args.m.now c.args.i) c.row.result.now c.extend_from_slice.new.self.items c.push_unit.new.entries.items
-        _ c.rows.result c.args.i c.row.ensures.value c.in_ok-extend_from_slice.ensures.items c.rows.ensures e) c.push_unit.ensures
+    _ c.rows.result c.args.i c.row.ensures.value c.in_ok-extend_from_slice.ensures.items c.rows.ensures e) c.push_unit.ensures

@@ -1,10 +1,8 @@
-use Rattle.std.proofs.Common.{map, List, sym, ap, ◌∙◌, subst}
+use Rattle.std.proofs.Common.{List, sym, subst}
 use Rattle.std.specs.Prelude.{unsigned_abs, Result}
 use Rattle.std.proofs.lemmas.Result.{err_from_is_err_and}
-use Rattle.rational.specs.Rational.{ℚ}
 use Rattle.frac_core.specs.declared.fractions.Refused.{Refused}
 use Rattle.exact_matrix.specs.Elimination.{Line}
-use Rattle.exact_matrix.specs.EliminationCalculation.{each_freed_in}
 use Rattle.exact_matrix.specs.Grid.{row_at}
 use Rattle.exact_matrix.specs.State.{IsLines, state}
 use Rattle.exact_matrix.proofs.States.{entry_read, cleared_by_copy, cleared_past}

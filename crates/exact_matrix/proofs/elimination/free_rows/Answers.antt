@@ -1,7 +1,6 @@
-use Rattle.std.proofs.Common.{map, length, ◌<◌, ◌≡◌, sym, ap, ◌∙◌, arith, refl}
+use Rattle.std.proofs.Common.{map, sym, ◌∙◌, arith, refl}
 use Rattle.std.specs.Prelude.{unsigned_abs}
 use Rattle.std.proofs.lemmas.Result.{err_from_is_err_and}
-use Rattle.exact_matrix.specs.Grid.{row_at}
 use Rattle.exact_matrix.specs.State.{state}
 use Rattle.exact_matrix.proofs.States.{append_no_lines, row_freed, each_past, each_end, state_get, state_length, with_row_shape}
 use Rattle.exact_matrix.proofs.elimination.free_rows.Goals as goal

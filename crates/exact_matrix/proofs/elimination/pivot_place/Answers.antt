@@ -1,4 +1,4 @@
-use Rattle.std.proofs.Common.{◌<◌, length, sym, ◌∙◌, arith}
+use Rattle.std.proofs.Common.{sym, ◌∙◌, arith}
 use Rattle.exact_matrix.specs.State.{state}
 use Rattle.exact_matrix.proofs.States.{none_at_start, none_before_more, none_at_end, pivot_found, state_get, state_length}
 use Rattle.exact_matrix.proofs.elimination.pivot_place.Goals as goal

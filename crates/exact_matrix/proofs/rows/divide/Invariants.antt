@@ -1,4 +1,4 @@
-use Rattle.std.proofs.Common.{◌≡◌, length, map, take, drop}
+use Rattle.std.proofs.Common.{◌≡◌, map, take, drop}
 use Rattle.std.specs.Prelude.{unsigned_abs}
 use Rattle.frac_core.proofs.RowLemmas.{append_row}
 use Rattle.exact_matrix.specs.EliminationCalculation.{divided_in}

@@ -1,4 +1,4 @@
-use Rattle.std.proofs.Common.{◌≡◌, length, ◌∙◌, arith}
+use Rattle.std.proofs.Common.{◌∙◌, arith}
 use Rattle.exact_matrix.proofs.systems.zeros.Goals as goal
 
 pub returns : goal.returns
