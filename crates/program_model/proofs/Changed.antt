@@ -1,11 +1,11 @@
 -- Each change of a program leaves a program.
-use Rattle.std.specs.Prelude.{◌≡◌, ◌≢◌, ℕ, zero, suc, ◌+◌, ◌<◌, ◌≤◌, List, [], ◌∷◌, ◌++◌, length, map, All, AllPairs, Option, Some, None, Bool, true, false, ◌⊎◌}
+use Rattle.std.specs.Prelude.{◌≡◌, ◌≢◌, ℕ, zero, suc, ◌+◌, ◌<◌, List, [], ◌∷◌, ◌++◌, length, map, All, AllPairs, Option, Some, None, Bool, true, false, ◌⊎◌}
 use Rattle.std.proofs.Common.{refl, arith, get_or, set, sym, ap, subst, ◌∙◌, cond, true≢false, inl, inr}
 use Rattle.std.specs.Option.{option_map}
 use Rattle.std.specs.Str.{bytes_eq}
 use Rattle.std.proofs.lemmas.Slice.Eq.{bytes_eq-Decides}
 use Rattle.std.proofs.lemmas.Bool.{cases_lt}
-use Rattle.std.proofs.lemmas.List.{length_push, map_push, map-set, length-map, length-set, length-replicate, get_or-set_same, get_or-set_other}
+use Rattle.std.proofs.lemmas.List.{length_push, map_push, length-map, length-set, length-replicate, get_or-set_same, get_or-set_other}
 use Rattle.std.proofs.lemmas.List.Elements.{All-push, All-set, All-map}
 use Rattle.std.proofs.lemmas.List.Quantifiers.{all_pairs_push}
 use Rattle.rational.specs.Rational.{ℚ, zero_ℚ}
@@ -14,7 +14,7 @@ use Rattle.program_law.specs.declared.Column.{Column}
 use Rattle.program_law.specs.Vectors.{at, row_at}
 use Rattle.program_law.specs.Places.{place_of}
 use Rattle.program_law.specs.Program.{Program, IsProgram, IsName, IsRow, row_names, column_names, sides, marker}
-use Rattle.program_law.specs.Changes.{zeros, widened, with_place, renewed, with_row, with_column, with_entry, with_cost, with_constant, with_pair, with_sides, with_bounds}
+use Rattle.program_law.specs.Changes.{zeros, widened, with_place, renewed, with_row, with_column, with_entry, with_cost, with_pair, with_sides, with_bounds}
 use Rattle.program_model.proofs.Padded.{at_zeros}
 
 -- ---- names

@@ -1,5 +1,5 @@
 -- Each change of what is kept is the change of what is seen, and leaves room.
-use Rattle.std.specs.Prelude.{◌≡◌, ◌≢◌, ℕ, zero, suc, ◌+◌, ◌-◌, ◌<◌, ◌≤◌, List, [], ◌∷◌, ◌++◌, length, map, take, All, None}
+use Rattle.std.specs.Prelude.{◌≡◌, ◌≢◌, ℕ, ◌+◌, ◌-◌, ◌<◌, ◌≤◌, List, [], ◌∷◌, ◌++◌, length, map, take, All, None}
 use Rattle.std.proofs.Common.{refl, arith, set, sym, ap, subst, ◌∙◌}
 use Rattle.std.proofs.lemmas.List.{length_push, length-set, map_push, length-map, take-replicate}
 use Rattle.std.proofs.lemmas.List.Elements.{All-push}
@@ -11,7 +11,7 @@ use Rattle.program_law.specs.declared.Column.{Column}
 use Rattle.program_law.specs.Vectors.{row_at}
 use Rattle.program_law.specs.Places.{place_of}
 use Rattle.program_law.specs.Program.{Program, IsProgram, IsName, IsRow, row_names, column_names, marker}
-use Rattle.program_law.specs.Changes.{zeros, widened, renewed, with_place, with_row, with_column, with_entry, with_cost, with_constant, with_pair, with_sides, with_bounds}
+use Rattle.program_law.specs.Changes.{zeros, widened, renewed, with_place, with_row, with_column, with_entry, with_cost, with_pair, with_sides, with_bounds}
 use Rattle.program_model.specs.Kept.{IsPadded, trimmed, IsRoomy}
 use Rattle.program_model.proofs.Padded.{padded_set, padded_more, padded_mores, padded_zeros, padded_place, place_taken, rows_more, take_more}
 use Rattle.program_model.proofs.Changed.{entry_good, cost_good, pair_good, sides_good, bounds_good, row_good, column_good, length-renewed}

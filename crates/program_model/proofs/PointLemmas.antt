@@ -1,12 +1,8 @@
 -- What the events of a point can be, and what an answer without one says.
 use Rattle.std.specs.Prelude.{◌≡◌, ℕ, suc, ◌≤◌, List, [], ◌∷◌, Bool, true, false, Result, Ok, Err, length}
-use Rattle.std.proofs.Common.{refl, arith, sym, ap, subst, ◌∙◌, cond}
+use Rattle.std.proofs.Common.{arith, sym, ap, subst, ◌∙◌}
 use Rattle.std.proofs.lemmas.List.{length-map}
 use Rattle.rational.specs.Rational.{ℚ}
-use Rattle.frac_core.specs.Calculated.{tried}
-use Rattle.frac_core.specs.declared.fractions.Op.{Op}
-use Rattle.frac_core.specs.declared.fractions.Tried.{Tried}
-use Rattle.frac_core.specs.declared.fractions.Tried.TheVariants.{Is, Past as PastTried}
 use Rattle.program_law.specs.declared.Row.{Row}
 use Rattle.program_law.specs.Region.{Region}
 use Rattle.program_law.specs.Program.{Program, IsProgram, sides, marks}
@@ -17,8 +13,8 @@ use Rattle.program_law.specs.Value.{value_of}
 use Rattle.program_law.proofs.Bridge.{feasible_back, value_is}
 use Rattle.check_law.specs.declared.Event.{Event}
 use Rattle.check_law.specs.declared.Event.TheVariants.{Past, Failed}
-use Rattle.check_law.specs.Chain.{◌>>=◌, answered, op, test, NoTestFails}
-use Rattle.check_law.specs.Dot.{with_product, dot_from, dot_of}
+use Rattle.check_law.specs.Chain.{◌>>=◌, test, NoTestFails}
+use Rattle.check_law.specs.Dot.{dot_of}
 use Rattle.check_law.specs.Point.{is_within, keeps_mark, row_within, rows_within, column_within, columns_within, point_test}
 use Rattle.check_law.specs.Value as checked
 use Rattle.check_law.proofs.Settled.{Settles, shown, passes}

@@ -1,5 +1,5 @@
 -- The form of a vector, row by row.
-use Rattle.std.specs.Prelude.{◌≡◌, List, [], ◌∷◌, Result, Ok, Err, Bool, pos}
+use Rattle.std.specs.Prelude.{◌≡◌, List, [], ◌∷◌, Result, Ok, Err, pos}
 use Rattle.std.proofs.Common.{refl, ap, sym, ◌∙◌}
 use Rattle.rational.specs.Rational.{ℚ, whole, ratio}
 use Rattle.rational.specs.Divisors.{gcd_of}

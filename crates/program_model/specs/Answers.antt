@@ -1,5 +1,5 @@
 -- What naming and adding answer.
-use Rattle.std.specs.Prelude.{◌≡◌, ℕ, ◌≤◌, ◌<◌, List, Option, None, IsSome, Result, Ok, Err}
+use Rattle.std.specs.Prelude.{◌≡◌, ℕ, ◌≤◌, ◌<◌, List, None, IsSome, Result, Ok, Err}
 use Rattle.program_law.specs.Program.{IsName}
 use Rattle.program_law.specs.Places.{place_of}
 use Rattle.program_model.specs.declared.faults.NameFault.{NameFault}

@@ -1,5 +1,5 @@
 -- What the tests of a point answer. Places count from 0 in an answer and from 1 in an event.
-use Rattle.std.specs.Prelude.{◌≡◌, ℕ, suc, ◌≤◌, List, Result, Ok, Err}
+use Rattle.std.specs.Prelude.{◌≡◌, suc, ◌≤◌, List, Result, Ok, Err}
 use Rattle.rational.specs.Rational.{ℚ}
 use Rattle.frac_core.specs.declared.fractions.Refused.{Refused}
 use Rattle.frac_core.specs.declared.fractions.Tried.{Tried}

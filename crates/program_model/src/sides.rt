@@ -19,8 +19,8 @@ fn is_span(low: Frac, high: Frac) -> bool
 }
 
 /// Whether sides may be a row's: there is one, and of two the low one is at most the high one and their difference fits.
-pub fn is_row(row: Row) -> bool
-    ensures { IsTrue result ↔ IsRow row }
+pub fn is_row(row: &Row) -> bool
+    ensures { IsTrue result ↔ IsRow row.now }
 {
     match row.low {
         None => row.high.is_some(),

@@ -1,6 +1,4 @@
-use Rattle.std.specs.Prelude.{◌≡◌, ℕ, ◌<◌, ◌≤◌, true, false, length}
-use Rattle.std.proofs.Common.{arith, sym, ap, ◌∙◌, get_or, subst}
-use Rattle.program_law.specs.declared.Row.{Row}
+use Rattle.std.proofs.Common.{arith, sym, ap, ◌∙◌}
 use Rattle.program_model.specs.Regions.{is_crossed}
 use Rattle.program_model.proofs.RegionLemmas.{position_there, position_nowhere}
 use Rattle.program_model.proofs.regions.first_crossed.Goals as goal

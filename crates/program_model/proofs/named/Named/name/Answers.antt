@@ -1,6 +1,4 @@
-use Rattle.std.proofs.Common.{◌∙◌, ap, sym}
-use Rattle.std.specs.Prelude.{Some, List, ℕ}
-use Rattle.std.specs.Option.{option_map}
+use Rattle.std.proofs.Common.{sym}
 use Rattle.program_model.proofs.NamedLemmas.{name_found}
 use Rattle.program_model.proofs.named.Named.name.Goals as goal
 

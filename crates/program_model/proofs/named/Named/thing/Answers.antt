@@ -1,4 +1,4 @@
-use Rattle.std.proofs.Common.{◌∙◌, ap, sym}
+use Rattle.std.proofs.Common.{sym}
 use Rattle.program_model.proofs.NamedLemmas.{thing_found}
 use Rattle.program_model.proofs.named.Named.thing.Goals as goal
 

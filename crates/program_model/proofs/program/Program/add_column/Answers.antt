@@ -1,4 +1,4 @@
-use Rattle.std.proofs.Common.{rules, arith, ◌≡◌, None, ◌∙◌, ap, List, ℕ, length, take, ◌-◌}
+use Rattle.std.proofs.Common.{rules, arith, ◌≡◌, None, ◌∙◌, ap, List, length, take, ◌-◌}
 use Rattle.rational.specs.Rational.{ℚ}
 use Rattle.program_law.specs.Changes.{zeros}
 use Rattle.program_law.specs.Program.{column_names}

@@ -1,5 +1,5 @@
 use Rattle.std.specs.Prelude.{◌≡◌, ℕ, Option, Some, None, IfSome, IfNone}
-use Rattle.std.proofs.Common.{refl, sym, ap, ◌∙◌}
+use Rattle.std.proofs.Common.{sym, ap, ◌∙◌}
 use Rattle.program_law.specs.Region.{Region, IsCrossedAt, IsCrossedRegion}
 use Rattle.program_model.specs.Regions.{first_crossed}
 use Rattle.program_model.proofs.RegionLemmas.{crossed_there, crossed_nowhere}

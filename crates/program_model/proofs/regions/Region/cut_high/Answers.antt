@@ -1,5 +1,4 @@
 use Rattle.std.proofs.Common.{◌<◌, length, subst, sym, ap, ◌∙◌}
-use Rattle.rational.specs.Rational.{ℚ}
 use Rattle.program_law.specs.Region.{Region, cut_high}
 use Rattle.program_model.proofs.RegionLemmas.{high_is}
 use Rattle.program_model.proofs.regions.Region.cut_high.Goals as goal
