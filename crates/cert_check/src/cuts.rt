@@ -39,13 +39,7 @@ fn larger_of(low: Option<Frac>, k: Frac) -> Option<Frac>
 {
     match low {
         None => Some(k),
-        Some(low) => {
-            if at_most(low, k) {
-                Some(k)
-            } else {
-                Some(low)
-            }
-        }
+        Some(low) => { if at_most(low, k) { Some(k) } else { Some(low) } }
     }
 }
 

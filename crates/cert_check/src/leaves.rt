@@ -10,7 +10,10 @@ ghost use Rattle.check_law.specs.Leaf.{with_rows, with_column, with_columns, no_
 use crate::reading::{column_count, row_count, sides_of};
 use crate::values::half_form;
 use check_law::Event;
-use check_steps::{at_most, difference, dot_with, entry, is_positive, is_zero, product_added, side_added, sum, tested};
+use check_steps::{
+    at_most, difference, dot_with, entry, is_positive, is_zero, product_added, side_added, sum,
+    tested,
+};
 use frac_core::{Frac, Vector};
 use program_law::Row;
 use program_model::Program;
@@ -29,13 +32,7 @@ fn rows_added(p: &Program, node: u32, y: &Vector<Frac>) -> Result<Frac, Event>
 
 // The sum with an entry of A times its row's multiplier. A multiplier 0 costs nothing more.
 #[tactic(auto, using(crate::proofs::Skipped::skipped, crate::proofs::Places::again))]
-fn term_added(
-    p: &Program,
-    i: u32,
-    j: usize,
-    total: Frac,
-    multiplier: Frac,
-) -> Result<Frac, Event>
+fn term_added(p: &Program, i: u32, j: usize, total: Frac, multiplier: Frac) -> Result<Frac, Event>
     requires row { i < length p.now.rows }
     requires place { j < length p.now.columns }
     ensures { result ≡ with_product total (at (row_at p.now.entries i) j) multiplier }
@@ -100,12 +97,7 @@ fn farkas_columns_added(
 }
 
 #[tactic(auto, unfolding(check_law::specs::Leaf::leaf_sum))]
-fn farkas_sum(
-    p: &Program,
-    node: u32,
-    region: &[Row],
-    y: &Vector<Frac>,
-) -> Result<Frac, Event>
+fn farkas_sum(p: &Program, node: u32, region: &[Row], y: &Vector<Frac>) -> Result<Frac, Event>
     requires rows { length y.now ≡ length p.now.rows }
     requires region { length region.now ≡ length p.now.columns }
     ensures { result ≡ leaf_sum p.now node no_gradient_at region.now y.now }
@@ -116,12 +108,7 @@ fn farkas_sum(
 
 /// The test of a FARKAS leaf.
 #[tactic(auto, unfolding(check_law::specs::Leaf::farkas_test))]
-pub fn farkas_tested(
-    p: &Program,
-    node: u32,
-    region: &[Row],
-    y: &Vector<Frac>,
-) -> Result<(), Event>
+pub fn farkas_tested(p: &Program, node: u32, region: &[Row], y: &Vector<Frac>) -> Result<(), Event>
     requires rows { length y.now ≡ length p.now.rows }
     requires region { length region.now ≡ length p.now.columns }
     ensures { result ≡ farkas_test p.now node region.now y.now }

@@ -51,12 +51,7 @@ fn branches_of(c: &Certificate) -> usize
 }
 
 // The tests of a tree for a value, or for none.
-fn tree_checked(
-    p: &Program,
-    v: &Option<Frac>,
-    tree: &Tree,
-    room: &mut Room,
-) -> Result<(), Event>
+fn tree_checked(p: &Program, v: &Option<Frac>, tree: &Tree, room: &mut Room) -> Result<(), Event>
     requires fits { FitsTree p.now tree.now }
     requires room { IsRoom p.now (branches tree.now) room.old }
     ensures { result ≡ tree_test p.now v.now (bounds p.now) tree.now }
@@ -159,3 +154,6 @@ pub fn check(alloc: Global, p: &Program, c: &Certificate) -> Result<Checked, Mem
     let mut room = Room::start(alloc, p, branches_of(c))?;
     Ok(answer(checked(p, c, &mut room)))
 }
+
+#[cfg(test)]
+mod tests;

@@ -45,7 +45,11 @@ fn columns_keep(p: &Program, d: &Vector<Frac>) -> Result<(), Event>
     ensures { result ≡ columns_keep 1 (bounds p.now) d.now }
 {
     for j in 0..column_count(p) {
-        tested(keeps_sides(bounds_of(p, j), entry(d, j as usize)), 12, j + 1)?;
+        tested(
+            keeps_sides(bounds_of(p, j), entry(d, j as usize)),
+            12,
+            j + 1,
+        )?;
     }
     Ok(())
 }

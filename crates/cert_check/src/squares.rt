@@ -12,8 +12,8 @@ use frac_core::Frac;
 use program_law::{Square, Squares};
 use program_model::Program;
 
-// The square at a place.
-fn square_of(squares: &Squares, m: usize) -> &Square
+/// The square at a place.
+pub fn square_of(squares: &Squares, m: usize) -> &Square
     requires { m < length squares.now }
     ensures { result.now ≡ slice_index_or squares.now m result.now }
 {

@@ -18,8 +18,8 @@ use frac_core::Frac;
 use program_law::Row;
 use program_model::Program;
 
-// The node at a place.
-fn node_of(tree: &Tree, k: usize) -> &Node
+/// The node at a place.
+pub fn node_of(tree: &Tree, k: usize) -> &Node
     requires { k < length tree.now }
     ensures { result.now ≡ slice_index_or tree.now k result.now }
 {

@@ -11,11 +11,7 @@ use frac_core::{Frac, Vector};
 use program_model::Program;
 
 // Writes each row of the form times the vector, and 0 where the vector's entry is 0.
-fn products_written(
-    p: &Program,
-    x: &Vector<Frac>,
-    products: &mut [Frac],
-) -> Result<(), Event>
+fn products_written(p: &Program, x: &Vector<Frac>, products: &mut [Frac]) -> Result<(), Event>
     requires width { length x.now ≡ length p.now.columns }
     requires room { length products.old ≡ length p.now.columns }
     ensures { Leaves products.new result (products_onto [] p.now.pairs x.now x.now) }

@@ -22,7 +22,6 @@ ghost use Rattle.certificate_law.specs.Good.{IsGood, verdict_of};
 mod builder;
 
 pub use builder::TreeBuilder;
-
 use frac_core::{Frac, Vector};
 use program_law::Squares;
 use std::marker::Model;

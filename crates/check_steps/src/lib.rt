@@ -223,12 +223,7 @@ pub fn whole_if(marked: bool, x: Frac) -> bool
 
 /// The test that a row's sum at a point is within its sides.
 #[tactic(auto, unfolding(check_law::specs::Point::row_within))]
-pub fn row_tested(
-    place: u32,
-    sides: Row,
-    row: &[Frac],
-    x: &Vector<Frac>,
-) -> Result<(), Event>
+pub fn row_tested(place: u32, sides: Row, row: &[Frac], x: &Vector<Frac>) -> Result<(), Event>
     requires { length row.now ≡ length x.now }
     ensures { result ≡ row_within place sides row.now x.now }
 {
