@@ -5,4 +5,6 @@ pub mod Words
 pub mod Fields
 pub mod Told
 pub mod Plain
+pub mod Marks
+pub mod Numbers
 pub mod Views
