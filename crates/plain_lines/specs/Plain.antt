@@ -28,14 +28,15 @@ row_stands names (Some row) = all_hold (is_row_name row.1 ∷ nat_lt (length nam
 
 -- ---- lines of COLUMNS and of RHS
 
--- a row or the objective, a number, and nothing told for them before
-abbrev pub pair_stands : List (List ℕ) → List ℕ → List Telling → Two → Bool
-pair_stands names column told pair = all_hold (is_some (place_of names pair.0) ∷ is_some (number_of pair.1) ∷ not (is_told told column pair.0) ∷ [])
+-- a row or the objective, and a number, where none was given before
+abbrev pub pair_stands : List (List ℕ) → Bool → Two → Bool
+pair_stands names given pair = all_hold (is_some (place_of names pair.0) ∷ is_some (number_of pair.1) ∷ not given ∷ [])
 
 -- each of the pairs, after those before it
 abbrev pub pairs_stand : List (List ℕ) → List ℕ → List Telling → List Two → Bool
 pairs_stand names column told [] = true
-pairs_stand names column told (pair ∷ pairs) = pair_stands names column told pair && pairs_stand names column (with_pairs column told (pair ∷ [])) pairs
+pairs_stand names column told (pair ∷ pairs) =
+    pair_stands names (is_told told column pair.0) pair && pairs_stand names column (with_pairs column told (pair ∷ [])) pairs
 
 -- a column that is there, or one more of at most 128
 abbrev pub column_stands : List (List ℕ) → List ℕ → Bool
@@ -66,9 +67,9 @@ comes_at next None = false
 comes_at next (Some place) = nat_le next place
 
 -- a row after the one before it, and a number
-abbrev pub multiplier_stands : List (List ℕ) → List Telling → Option Two → Bool
-multiplier_stands rows told None = false
-multiplier_stands rows told (Some pair) = all_hold (comes_at (next_row rows told) (place_of rows pair.0) ∷ is_some (multiplier_of pair.1) ∷ [])
+abbrev pub multiplier_stands : List (List ℕ) → ℕ → Option Two → Bool
+multiplier_stands rows next None = false
+multiplier_stands rows next (Some pair) = all_hold (comes_at next (place_of rows pair.0) ∷ is_some (multiplier_of pair.1) ∷ [])
 
 -- ---- any line
 
@@ -78,7 +79,7 @@ data_stands told Columns line = entries_stand told (entries_in line)
 data_stands told Sides line = sides_stand told (entries_in line)
 data_stands told Ended line = false
 data_stands told Claimed line = false
-data_stands told Multipliers line = multiplier_stands (names_in told.rows) told.multipliers (multiplier_in line)
+data_stands told Multipliers line = multiplier_stands (names_in told.rows) (next_row (names_in told.rows) told.multipliers) (multiplier_in line)
 data_stands told Finished line = false
 
 -- the bytes up to the end of the word ENDATA are at most 2^20

@@ -1,13 +1,18 @@
-// A library with one function.
+//! Reads a plain program text that is followed by a certificate of infeasibility with one leaf.
 #![tactic(auto)]
 
-ghost use Rattle.std.specs.Prelude.{◌≡◌};
-ghost use Rattle.plain_reader.specs.Echo.{echo_of};
+mod draft;
+mod entries;
+mod marks;
+mod multipliers;
+mod reading;
+mod rows;
+mod sides;
+mod stop;
+mod taking;
 
-// The `ensures` clause is the contract: what `echo` returns is `echo_of` of its argument, a definition
-// in `specs/Echo.antt`, which a caller's clause can cite too.
-pub fn echo(x: usize) -> usize
-    ensures { result ≡ echo_of x }
-{
-    x
-}
+pub use reading::read;
+pub use stop::ReadStop;
+
+#[cfg(test)]
+mod tests;
