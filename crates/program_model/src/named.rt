@@ -1,6 +1,6 @@
 // Things with names, in the order in which they were given.
 
-ghost use Rattle.std.specs.Prelude.{◌≡◌, ◌<◌, ◌^◌, ◌++◌, ◌∷◌, [], None, Some, length, slice_get, OnOk, OnErr};
+ghost use Rattle.std.specs.Prelude.{◌≡◌, ◌<◌, ◌^◌, ◌++◌, ◌∷◌, [], None, Some, length, slice_get, IfSome, OnOk, OnErr};
 ghost use Rattle.program_law.specs.Changes.{renewed};
 ghost use Rattle.program_law.specs.Places.{place_of};
 ghost use Rattle.program_model.specs.Named.{names_of, things_of};
@@ -44,7 +44,8 @@ impl<T: Copy + Drop> Named<T> {
 
     /// The place of a name.
     pub fn find(&self, name: &[u8]) -> Option<usize>
-        ensures { result ≡ place_of (names_of self.now) name.now }
+        ensures place { result ≡ place_of (names_of self.now) name.now }
+        ensures within { IfSome result (λ k. k < length self.now) }
     {
         self.entries.get_index_of(name)
     }
