@@ -2,3 +2,4 @@ pub mod Held
 pub mod Lines
 pub mod RowSides
 pub mod Puts
+pub mod Compose

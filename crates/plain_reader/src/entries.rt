@@ -66,6 +66,8 @@ fn put_entry(draft: &mut Draft, column: u32, pair: Pair<'_>) -> Result<(), ReadS
     ensures entry { (told : Told) (name : List ℕ) → Holds told draft.old → place_of told.columns name ≡ Some column →
         PutsEntry told name (viewed_pair pair.entry) draft.new result }
     ensures part { OnOk result (draft.new.part ≡ draft.old.part) }
+    ensures columns { OnOk result (length draft.new.program.columns ≡ length draft.old.program.columns) }
+    ensures given { OnOk result (length draft.new.given ≡ length draft.old.given) }
 {
     let count = draft.program.columns();
     prove!(column < count);

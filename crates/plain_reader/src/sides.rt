@@ -74,6 +74,7 @@ fn put_side(draft: &mut Draft, pair: Pair<'_>) -> Result<(), ReadStop>
     requires { length draft.old.sided ≡ 129 }
     ensures side { (told : Told) → Holds told draft.old → PutsSide told (viewed_pair pair.entry) draft.new result }
     ensures part { OnOk result (draft.new.part ≡ draft.old.part) }
+    ensures sided { OnOk result (length draft.new.sided ≡ length draft.old.sided) }
 {
     let (target, value) = take_pair(&draft.program, &mut draft.sided, 0, pair)?;
     set_side(&mut draft.program, target, value);
