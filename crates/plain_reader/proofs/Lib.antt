@@ -1,0 +1,5 @@
+pub mod Held
+pub mod Lines
+pub mod RowSides
+pub mod Puts
+pub mod Compose
