@@ -49,7 +49,7 @@ answer_due (Past r) =
     record {
       status = status.Withheld;
       text =
-        codes "WITHHELD PAST\nSITE CHECK\nOP " ++ (op_word r.op ++ (codes " " ++ (text_of r.left ++ (codes " " ++ (text_of r.right ++ codes "\nEND\n")))));
+          codes "WITHHELD PAST\nSITE CHECK\nOP " ++ (op_word r.op ++ (codes " " ++ (text_of r.left ++ (codes " " ++ (text_of r.right ++ codes "\nEND\n")))));
     }
 
 -- the certificate that is one FARKAS leaf with these multipliers

@@ -102,7 +102,9 @@ fn told(alloc: Global, checked: Checked) -> Result<Answer, Memory>
         Checked::Past(Refused { op, left, right }) => {
             let word = word_of(op);
             Ok(Answer {
-                text: format!(in alloc; "WITHHELD PAST\nSITE CHECK\nOP {word} {left} {right}\nEND\n")?,
+                text: format!(in alloc;
+                    "WITHHELD PAST\nSITE CHECK\nOP {word} {left} {right}\nEND\n"
+                )?,
                 status: Status::Withheld,
             })
         }
@@ -122,7 +124,11 @@ fn one_leaf(alloc: Global, multipliers: Vector<Frac>) -> Result<Certificate, Mem
 }
 
 /// The answer of the check of one FARKAS leaf.
-fn checked_leaf(alloc: Global, program: &Program, multipliers: Vector<Frac>) -> Result<Checked, Memory>
+fn checked_leaf(
+    alloc: Global,
+    program: &Program,
+    multipliers: Vector<Frac>,
+) -> Result<Checked, Memory>
     requires { length multipliers ≡ length program.now.rows }
     ensures value { IfOk result (λ a. a ≡ answer (checked program.now (one_leaf multipliers))) }
     ensures no_point { IfOk result (λ a. a ≡ Checked.Accepted → IsInfeasible program.now) }

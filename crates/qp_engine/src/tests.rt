@@ -29,12 +29,23 @@ fn check<S: Source, T: Sink>(alloc: Global, source: &mut S, sink: &mut T) -> Res
 fn answers_of_check(rt: HostRuntime) -> Result<(), Fail> {
     let alloc = rt.alloc();
     let past = "INFEASIBLE\nFARKAS\nY r1 -1\nY r2 170141183460469231731687303715884105727\nEND\n";
-    let past_text = "WITHHELD PAST\nSITE CHECK\nOP MUL 170141183460469231731687303715884105727 2\nEND\n";
+    let past_text =
+        "WITHHELD PAST\nSITE CHECK\nOP MUL 170141183460469231731687303715884105727 2\nEND\n";
     let bounds = "ROWS\n N obj\n L r1\n G r2\nCOLUMNS\n x r1 1 r2 1\nRHS\n RHS r1 1 r2 2\nBOUNDS\n";
     for (program, certificate, status, text) in [
         (PROGRAM, ACCEPTED, Status::Done, "ACCEPTED\n"),
-        (PROGRAM, "INFEASIBLE\nFARKAS\nY r1 -1\nEND\n", Status::Rejected, "REJECTED 9 1\n"),
-        (PROGRAM, "INFEASIBLE\nFARKAS\nY r1 1\nEND\n", Status::Rejected, "REJECTED 7 1\n"),
+        (
+            PROGRAM,
+            "INFEASIBLE\nFARKAS\nY r1 -1\nEND\n",
+            Status::Rejected,
+            "REJECTED 9 1\n",
+        ),
+        (
+            PROGRAM,
+            "INFEASIBLE\nFARKAS\nY r1 1\nEND\n",
+            Status::Rejected,
+            "REJECTED 7 1\n",
+        ),
         (PROGRAM, past, Status::Withheld, past_text),
         ("", "", Status::FileRefused, "FILE 0 NotYet\n"),
         (bounds, ACCEPTED, Status::FileRefused, "FILE 0 NotYet\n"),
@@ -42,7 +53,11 @@ fn answers_of_check(rt: HostRuntime) -> Result<(), Fail> {
         for per_read in [1, 7, 4096] {
             let mut source = SteadySource::of(joined(alloc, program, certificate)?, per_read);
             let mut sink = SteadySink::of(alloc, 4096);
-            assert_eq!(rt; check(alloc, &mut source, &mut sink)?, status, "{certificate}");
+            assert_eq!(rt;
+                check(alloc, &mut source, &mut sink)?,
+                status,
+                "{certificate}"
+            );
             assert_eq!(rt; sink.bytes(), text.as_bytes(), "{certificate}");
         }
     }
@@ -74,7 +89,11 @@ fn words_that_are_not_taken(rt: HostRuntime) -> Result<(), Fail> {
         }
         let mut source = SteadySource::of(joined(alloc, PROGRAM, ACCEPTED)?, 4096);
         let mut sink = SteadySink::of(alloc, 4096);
-        assert_eq!(rt; run(alloc, &words, &mut source, &mut sink), Status::Usage, "{line}");
+        assert_eq!(rt;
+            run(alloc, &words, &mut source, &mut sink),
+            Status::Usage,
+            "{line}"
+        );
         assert_eq!(rt; sink.bytes(), USAGE.as_bytes(), "{line}");
     }
     Ok(())

@@ -32,10 +32,16 @@ fn sources_in_memory(rt: HostRuntime) -> Result<(), Fail> {
     let bytes = b"abcdefg".to_vec(rt.alloc())?;
     let failing = vec![in rt.alloc(); 2u64]?;
     let mut failing_once = MemorySource::of(bytes, 5, failing);
-    assert_eq!(rt; given(rt.alloc(), &mut failing_once)?.as_slice(), b"abc|!|def|g|".as_slice());
+    assert_eq!(rt;
+        given(rt.alloc(), &mut failing_once)?.as_slice(),
+        b"abc|!|def|g|".as_slice()
+    );
     let bytes = b"abcde".to_vec(rt.alloc())?;
     let mut steady = SteadySource::of(bytes, 2);
-    assert_eq!(rt; given(rt.alloc(), &mut steady)?.as_slice(), b"ab|cd|e||".as_slice());
+    assert_eq!(rt;
+        given(rt.alloc(), &mut steady)?.as_slice(),
+        b"ab|cd|e||".as_slice()
+    );
     Ok(())
 }
 
@@ -44,7 +50,10 @@ fn sinks_in_memory(rt: HostRuntime) -> Result<(), Fail> {
     let failing = vec![in rt.alloc(); 2u64]?;
     let mut failing_once = MemorySink::of(rt.alloc(), 2, failing);
     let answers = offered(rt.alloc(), &mut failing_once)?;
-    assert_eq!(rt; answers.as_slice(), [Ok(2), Err(SinkStop::Failed), Ok(2)].as_slice());
+    assert_eq!(rt;
+        answers.as_slice(),
+        [Ok(2), Err(SinkStop::Failed), Ok(2)].as_slice()
+    );
     assert_eq!(rt; failing_once.bytes(), b"abef".as_slice());
     let mut steady = SteadySink::of(rt.alloc(), 4);
     let answers = offered(rt.alloc(), &mut steady)?;
