@@ -19,6 +19,10 @@ ghost use Rattle.certificate_law.specs.Squares.{AreSquaresOf, IsSemidefinite};
 ghost use Rattle.certificate_law.specs.Ray.{IsRay};
 ghost use Rattle.certificate_law.specs.Good.{IsGood, verdict_of};
 
+mod builder;
+
+pub use builder::TreeBuilder;
+
 use frac_core::{Frac, Vector};
 use program_law::Squares;
 use std::marker::Model;
