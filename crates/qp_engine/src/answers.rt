@@ -1,6 +1,6 @@
 //! What is to be written for an input, and how the run is to end.
 
-ghost use Rattle.std.specs.Prelude.{◌≡◌, ◌≢◌, ◌≤◌, length, IfOk, string_bytes};
+ghost use Rattle.std.specs.Prelude.{◌≡◌, ◌≢◌, ◌≤◌, length, Ok, IfOk, string_bytes};
 ghost use Rattle.qp_engine.specs.Due.{usage_due, refused_due, answer_due, op_word, one_leaf, due};
 ghost use Rattle.qp_engine.specs.Runs.{HasText, NoPoint};
 ghost use Rattle.check_law.specs.Check.{checked, answer};
@@ -9,7 +9,7 @@ ghost use Rattle.program_law.specs.Verdict.{IsInfeasible};
 use crate::status::Status;
 use cert_check::check;
 use certificate_law::{Certificate, Node, Tree};
-use check_law::{Checked, no_event_is_true};
+use check_law::Checked;
 use frac_core::{Frac, Memory, Op, Refused, Vector};
 use plain_reader::{ReadStop, read};
 use program_model::Program;
@@ -131,14 +131,10 @@ fn checked_leaf(
 ) -> Result<Checked, Memory>
     requires { length multipliers ≡ length program.now.rows }
     ensures value { IfOk result (λ a. a ≡ answer (checked program.now (one_leaf multipliers))) }
-    ensures no_point { IfOk result (λ a. a ≡ Checked.Accepted → IsInfeasible program.now) }
+    ensures no_point { result ≡ Ok Checked.Accepted → IsInfeasible program.now }
 {
-    let rows = program.rows() as usize;
-    prove!(multipliers.len() == rows);
-    no_event_is_true();
     let certificate = one_leaf(alloc, multipliers)?;
-    let checked = check(alloc, program, &certificate)?;
-    Ok(checked)
+    check(alloc, program, &certificate)
 }
 
 /// The answer to an input.
