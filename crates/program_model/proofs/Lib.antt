@@ -1,0 +1,6 @@
+pub mod Outcomes
+pub mod Rows
+pub mod NamedLemmas
+pub mod Padded
+pub mod Changed
+pub mod KeptLemmas
