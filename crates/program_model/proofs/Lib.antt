@@ -4,3 +4,7 @@ pub mod NamedLemmas
 pub mod Padded
 pub mod Changed
 pub mod KeptLemmas
+pub mod Found
+pub mod RegionLemmas
+pub mod PointLemmas
+pub mod ValueLemmas

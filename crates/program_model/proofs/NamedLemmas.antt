@@ -21,7 +21,7 @@ position_rest n len =
       | inr le ↦ rw (le-ltb (1 + n) (suc len) (omega arith), le-ltb n len le) refl
     ]
 
-position-cons : {X : Type 0} (p : X → Bool) (x : X) (xs : List X) → position p (x ∷ xs) ≡ cond (p x) (Some 0) (option_map suc (position p xs))
+pub position-cons : {X : Type 0} (p : X → Bool) (x : X) (xs : List X) → position p (x ∷ xs) ≡ cond (p x) (Some 0) (option_map suc (position p xs))
 position-cons p x xs =
     elim (cases_Bool (p x)) [
       | inl e ↦ rw (e, lt-ltb 0 (suc (length xs)) (omega arith)) refl

@@ -3,3 +3,4 @@ pub mod Answers
 pub mod Kept
 pub mod Regions
 pub mod Tested
+pub mod Totals

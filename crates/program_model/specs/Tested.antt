@@ -1,5 +1,5 @@
 -- What the tests of a point answer. Places count from 0 in an answer and from 1 in an event.
-use Rattle.std.specs.Prelude.{◌≡◌, ℕ, suc, List, Result, Ok, Err}
+use Rattle.std.specs.Prelude.{◌≡◌, ℕ, suc, ◌≤◌, List, Result, Ok, Err}
 use Rattle.rational.specs.Rational.{ℚ}
 use Rattle.frac_core.specs.declared.fractions.Refused.{Refused}
 use Rattle.frac_core.specs.declared.fractions.Tried.{Tried}
@@ -21,6 +21,11 @@ event_of (Ok (Row i)) = Err (Failed 1 (suc i))
 event_of (Ok (Bound j)) = Err (Failed 2 (suc j))
 event_of (Ok (Mark j)) = Err (Failed 3 (suc j))
 event_of (Err r) = Err (Past r)
+
+-- a past operation, or one of the three rules at a row or a column
+abbrev pub IsPointEvent : Event → Type 0
+IsPointEvent (Past r) = Unit {0}
+IsPointEvent (Failed rule place) = (1 ≤ rule) × (rule ≤ 3) × (1 ≤ place)
 
 -- inside is every point with these columns
 abbrev pub IsInsideIfTold : Program → Region → List ℚ → Result PointTest Refused → Type 0

@@ -7,6 +7,7 @@ mod named;
 mod names;
 mod points;
 mod program;
+mod reading;
 mod regions;
 
 pub use faults::{AddFault, NameFault};

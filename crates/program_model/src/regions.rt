@@ -3,15 +3,15 @@
 ghost use Rattle.std.specs.Prelude.{◌≡◌, ◌<◌, ◌≤◌, length, IfOk, IfSome, IfNone};
 ghost use Rattle.program_law.specs.Program.{bounds};
 ghost use Rattle.program_law.specs.Region.{smaller, larger, cut_high, cut_low, IsCrossedAt, IsCrossedRegion};
-ghost use Rattle.program_law.specs.Tests.{is_le};
 ghost use Rattle.check_law.specs.Tree.{bounds_at};
-ghost use Rattle.program_model.specs.Regions.{first_crossed};
+ghost use Rattle.program_model.specs.Regions.{is_crossed, first_crossed};
 
 use crate::program::Program;
+use crate::reading::{bounds_of, column_count};
+use check_steps::at_most;
 use frac_core::{Frac, Memory};
 use program_law::Row;
 use std::alloc::Global;
-use std::cmp::Ordering;
 use std::marker::Model;
 
 /// A low and a high bound for each column, each of which may be absent.
@@ -36,14 +36,7 @@ impl Region {
     pub fn of(alloc: Global, p: &Program) -> Result<Region, Memory>
         ensures { IfOk result (λ region. region ≡ bounds p.now) }
     {
-        let mut bounds = Vec::new(alloc);
-        for j in 0..p.columns() {
-            let column = p.column(j);
-            bounds.push(Row {
-                low: column.low,
-                high: column.high,
-            })?;
-        }
+        let bounds = all_bounds(alloc, p)?;
         Ok(Region { bounds })
     }
 
@@ -102,7 +95,7 @@ impl Region {
         ensures crossed { IfSome result (λ j. IsCrossedAt self.now j) }
         ensures none { IfNone result (IsCrossedRegion self.now → ⊥) }
     {
-        None
+        first_crossed(&self.bounds)
     }
 }
 
@@ -126,8 +119,44 @@ fn larger(low: Option<Frac>, k: Frac) -> Option<Frac>
     }
 }
 
-fn at_most(x: Frac, y: Frac) -> bool
-    ensures { result ≡ is_le x y }
+// Whether a low bound is above a high one.
+fn is_crossed(bounds: &Row) -> bool
+    ensures { result ≡ is_crossed bounds.now }
 {
-    x.cmp(&y) != Ordering::Greater
+    match bounds.low {
+        Some(low) => match bounds.high {
+            Some(high) => !at_most(low, high),
+            None => false,
+        },
+        None => false,
+    }
+}
+
+// The first place where the low bound is above the high one.
+fn first_crossed(bounds: &[Row]) -> Option<u32>
+    requires { length bounds.now ≤ 128 }
+    ensures { result ≡ first_crossed bounds.now }
+{
+    for j in 0..bounds.len() {
+        if is_crossed(&bounds[j]) {
+            return Some(j as u32);
+        }
+    }
+    None
+}
+
+// The bounds of a program's columns.
+fn all_bounds(alloc: Global, p: &Program) -> Result<Vec<Row>, Memory>
+    ensures bounds { IfOk result (λ rows. rows.items ≡ bounds p.now) }
+    ensures few { length (bounds p.now) ≤ 128 }
+{
+    let mut bounds = Vec::new(alloc);
+    for j in 0..p.columns() {
+        let column = p.column(j);
+        bounds.push(Row {
+            low: column.low,
+            high: column.high,
+        })?;
+    }
+    Ok(bounds)
 }
