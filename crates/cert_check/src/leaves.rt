@@ -3,14 +3,14 @@
 ghost use Rattle.std.specs.Prelude.{◌≡◌, ◌<◌, ◌≤◌, length};
 ghost use Rattle.rational.specs.Rational.{zero_ℚ};
 ghost use Rattle.program_law.specs.Program.{sides};
-ghost use Rattle.program_law.specs.Vectors.{column};
-ghost use Rattle.check_law.specs.Dot.{dot_of};
+ghost use Rattle.program_law.specs.Vectors.{at, row_at, column};
+ghost use Rattle.check_law.specs.Dot.{with_product, dot_of};
 ghost use Rattle.check_law.specs.Leaf.{with_rows, with_column, with_columns, no_gradient_at, gradient_at, reaches, leaf_sum, farkas_test, bound_test};
 
-use crate::reading::{column_count, entries_of, row_count, sides_of};
+use crate::reading::{column_count, row_count, sides_of};
 use crate::values::half_form;
 use check_law::Event;
-use check_steps::{at_most, difference, dot_with, entry, is_positive, product_added, side_added, sum, tested};
+use check_steps::{at_most, difference, dot_with, entry, is_positive, is_zero, product_added, side_added, sum, tested};
 use frac_core::{Frac, Vector};
 use program_law::Row;
 use program_model::Program;
@@ -27,7 +27,28 @@ fn rows_added(p: &Program, node: u32, y: &Vector<Frac>) -> Result<Frac, Event>
     Ok(sum)
 }
 
+// The sum with an entry of A times its row's multiplier. A multiplier 0 costs nothing more.
+#[tactic(auto, using(crate::proofs::Skipped::skipped, crate::proofs::Places::again))]
+fn term_added(
+    p: &Program,
+    i: u32,
+    j: usize,
+    total: Frac,
+    multiplier: Frac,
+) -> Result<Frac, Event>
+    requires row { i < length p.now.rows }
+    requires place { j < length p.now.columns }
+    ensures { result ≡ with_product total (at (row_at p.now.entries i) j) multiplier }
+{
+    if is_zero(multiplier) {
+        return Ok(total);
+    }
+    let row = p.entries_of(i);
+    product_added(total, row[j], multiplier)
+}
+
 // A column of A times the rows' multipliers.
+#[tactic(auto, using(crate::proofs::Skipped::column_step))]
 fn column_dot(p: &Program, j: usize, y: &Vector<Frac>) -> Result<Frac, Event>
     requires rows { length y.now ≡ length p.now.rows }
     requires place { j < length p.now.columns }
@@ -35,8 +56,7 @@ fn column_dot(p: &Program, j: usize, y: &Vector<Frac>) -> Result<Frac, Event>
 {
     let mut total = Frac::whole(0);
     for i in 0..row_count(p) {
-        let row = entries_of(p, i);
-        total = product_added(total, row[j], entry(y, i as usize))?;
+        total = term_added(p, i, j, total, entry(y, i as usize))?;
     }
     Ok(total)
 }
