@@ -1,1 +1,4 @@
-
+pub mod Held
+pub mod Lines
+pub mod RowSides
+pub mod Puts

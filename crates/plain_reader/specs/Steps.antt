@@ -1,22 +1,27 @@
 -- What one line does to a draft.
-use Rattle.std.specs.Prelude.{◌≡◌, ℕ, ◌+◌, ◌*◌, ◌<◌, ◌≤◌, ◌&&◌, Bool, true, false, List, [], ◌∷◌, ◌++◌, length, slice_set, map, Option, Some, None, Result, Ok, Err, ⊤, if◌then◌else◌, is_some}
+use Rattle.std.specs.Prelude.{◌≡◌, ℕ, suc, ◌+◌, ◌*◌, ◌<◌, ◌≤◌, ◌&&◌, Bool, true, false, List, [], ◌∷◌, ◌++◌, length, slice_set, slice_get, map, Option, Some, None, Result, Ok, Err, ⊤, if◌then◌else◌, is_some}
 use Rattle.std.specs.Option.{option_to_list}
-use Rattle.rational.specs.Rational.{ℚ, zero_ℚ}
+use Rattle.rational.specs.Rational.{ℚ, zero_ℚ, neg_ℚ}
 use Rattle.program_law.specs.Places.{place_of}
-use Rattle.program_law.specs.Program.{Program, row_names, column_names}
-use Rattle.program_law.specs.Changes.{with_row, with_column}
+use Rattle.program_law.specs.Program.{Program, row_names, column_names, sides}
+use Rattle.program_law.specs.Changes as changes
+use Rattle.program_law.specs.Changes.{with_row, with_column, with_constant}
+use Rattle.program_law.specs.declared.Row as row
+use Rattle.plain_lines.specs.Numbers.{moved}
 use Rattle.plain_lines.specs.declared.words.Part.{Part}
 use Rattle.plain_lines.specs.declared.words.Part.TheVariants.{Rows, Columns, Sides, Ended, Claimed, Multipliers, Finished}
 use Rattle.plain_lines.specs.declared.words.RowKind.{RowKind}
 use Rattle.plain_lines.specs.Spelling.{number_of, multiplier_of}
 use Rattle.plain_lines.specs.Words.{sides_of, may_follow}
 use Rattle.plain_lines.specs.Fields.{Two, Entries, row_in, entries_in, multiplier_in}
-use Rattle.plain_lines.specs.Told.{Told, Telling, all_names, names_in, with_head, with_new, with_entries, with_pairs, with_sides, with_multiplier, first_set, plain_column}
+use Rattle.plain_lines.specs.Told.{Told, Telling, is_told, all_names, names_in, with_head, with_new, with_entries, with_pairs, with_sides, with_multiplier, first_set, plain_column}
 use Rattle.plain_lines.specs.Plain.{row_stands, column_stands, pair_stands, set_stands, multiplier_stands, data_stands, is_in_reach, may_stand}
 use Rattle.plain_lines.specs.Marks.{has}
 use Rattle.plain_reader.specs.declared.draft.Draft.{Draft}
 use Rattle.plain_reader.specs.declared.stop.ReadStop.{ReadStop}
 use Rattle.plain_reader.specs.declared.stop.ReadStop.TheVariants as stops
+use Rattle.plain_reader.specs.declared.marks.Target.{Target}
+use Rattle.plain_reader.specs.declared.marks.Target.TheVariants.{Objective, Row}
 use Rattle.plain_reader.specs.Drafts.{Holds, IsDraftOf}
 
 -- ---- headers
@@ -43,9 +48,23 @@ abbrev pub has_at : List Bool → ℕ → Option ℕ → Bool
 has_at marks column None = false
 has_at marks column (Some place) = has marks column place
 
-abbrev pub TakesPair : List (List ℕ) → List Bool → List Bool → ℕ → Two → Result (ℕ × ℚ) ReadStop → Type 0
+-- the place of a target among the names of the objective and the rows
+abbrev pub place_in : Target → ℕ
+place_in Objective = 0
+place_in (Row i) = suc i
+
+abbrev pub IsTarget : List (List ℕ) → List ℕ → Option Target → Type 0
+IsTarget names name None = place_of names name ≡ None
+IsTarget names name (Some target) = place_of names name ≡ Some (place_in target)
+
+-- the objective, or a row that there is
+pub record IsWithin (p : Program) (target : Target) : Type 0 where
+  pub few : place_in target < 129
+  pub row : place_in target ≤ length p.rows
+
+abbrev pub TakesPair : List (List ℕ) → List Bool → List Bool → ℕ → Two → Result (Target × ℚ) ReadStop → Type 0
 TakesPair names old new column pair (Ok p) =
-    (pair_stands names (has_at old column (place_of names pair.0)) pair ≡ true) × (place_of names pair.0 ≡ Some p.0) × (number_of pair.1 ≡ Some p.1) × (new ≡ slice_set old (129 * column + p.0) true)
+    (pair_stands names (has_at old column (place_of names pair.0)) pair ≡ true) × (place_of names pair.0 ≡ Some (place_in p.0)) × (number_of pair.1 ≡ Some p.1) × (new ≡ slice_set old (129 * column + place_in p.0) true)
 TakesPair names old new column pair (Err stops.Memory) = ⊤
 TakesPair names old new column pair (Err stops.NotPlain) = pair_stands names (has_at old column (place_of names pair.0)) pair ≡ false
 
@@ -80,6 +99,11 @@ abbrev pub PutsSide : Told → Two → Draft → Result Unit ReadStop → Type 0
 PutsSide told pair new (Ok u) = (pair_stands (all_names told) (is_told told.sides [] pair.0) pair ≡ true) × Holds (record told { sides = with_pairs [] told.sides (pair ∷ []) }) new
 PutsSide told pair new (Err stops.Memory) = ⊤
 PutsSide told pair new (Err stops.NotPlain) = pair_stands (all_names told) (is_told told.sides [] pair.0) pair ≡ false
+
+-- a right side is in the place of another
+abbrev pub SetsSide : Program → Program → Target → ℚ → Type 0
+SetsSide old new Objective v = new ≡ with_constant old (neg_ℚ v)
+SetsSide old new (Row i) v = (s : row.Row) × (slice_get (sides old) i ≡ Some s) × (new ≡ changes.with_sides old i (moved s v))
 
 -- ---- multipliers
 

@@ -4,14 +4,12 @@ ghost use Rattle.std.specs.Prelude.{◌≡◌, ◌≢◌, [], IfOk};
 ghost use Rattle.program_law.specs.Program.{marker};
 ghost use Rattle.plain_reader.specs.Started.{IsStarted};
 
+use crate::marks::{HEIGHT, clear_marks};
 use crate::stop::ReadStop;
-use frac_core::Vector;
+use frac_core::{Frac, Vector};
 use plain_lines::Part;
 use program_model::{Name, Program};
 use std::alloc::Global;
-
-/// How many numbers of a column may be given: those of 128 rows and of the objective.
-pub(crate) const HEIGHT: usize = 129;
 
 /// What the lines so far tell.
 #[derive(Drop)]
@@ -26,7 +24,7 @@ pub(crate) struct Draft {
     /// Which right sides were given.
     pub sided: Vector<bool>,
     /// One for each row.
-    pub multipliers: Vector<frac_core::Frac>,
+    pub multipliers: Vector<Frac>,
     /// The first row that the next multiplier may be of.
     pub next_row: u32,
 }
@@ -38,9 +36,9 @@ impl Draft {
         ensures { IfOk result (λ draft. IsStarted objective draft) }
     {
         let program = Program::start(alloc, objective)?;
-        let given = Vector::filled(alloc, 128 * HEIGHT, false)?;
-        let sided = Vector::filled(alloc, HEIGHT, false)?;
-        let multipliers = Vector::filled(alloc, 0, frac_core::Frac::whole(0))?;
+        let given = clear_marks(alloc, 128 * HEIGHT)?;
+        let sided = clear_marks(alloc, HEIGHT)?;
+        let multipliers = Vector::filled(alloc, 0, Frac::whole(0))?;
         Ok(Draft {
             part: Part::Rows,
             program,

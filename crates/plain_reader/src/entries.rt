@@ -4,12 +4,13 @@ ghost use Rattle.std.specs.Prelude.{◌≡◌, ◌<◌, length, IfOk, OnOk, Some
 ghost use Rattle.program_law.specs.Places.{place_of};
 ghost use Rattle.plain_lines.specs.declared.words.Part.TheVariants.{Columns};
 ghost use Rattle.plain_lines.specs.Told.{Told, plain_column};
+ghost use Rattle.plain_lines.specs.Numbers.{with_number};
 ghost use Rattle.plain_lines.specs.Views.{viewed_pair};
 ghost use Rattle.plain_reader.specs.Drafts.{Holds};
-ghost use Rattle.plain_reader.specs.Steps.{PlacesColumn, PutsEntry, TakesData};
+ghost use Rattle.plain_reader.specs.Steps.{PlacesColumn, PutsEntry, TakesData, IsWithin, place_in};
 
 use crate::draft::Draft;
-use crate::marks::take_pair;
+use crate::marks::{Target, take_pair};
 use crate::rows::name_of;
 use crate::stop::ReadStop;
 use frac_core::Frac;
@@ -46,20 +47,30 @@ fn place_column(alloc: Global, program: &mut Program, name: &[u8]) -> Result<u32
     }
 }
 
+/// A cost, or an entry.
+fn set_number(program: &mut Program, target: Target, column: u32, value: Frac)
+    requires column { column < length program.old.columns }
+    requires target { IsWithin program.old target }
+    ensures { program.new ≡ with_number program.old (place_in target) column value }
+{
+    match target {
+        Target::Objective => program.set_cost(column, value),
+        Target::Row(row) => program.set_entry(row, column, value),
+    }
+}
+
 /// A pair of a column.
 fn put_entry(draft: &mut Draft, column: u32, pair: Pair<'_>) -> Result<(), ReadStop>
     requires column { column < length draft.old.program.columns }
     requires room { length draft.old.given ≡ 16512 }
     ensures entry { (told : Told) (name : List ℕ) → Holds told draft.old → place_of told.columns name ≡ Some column →
-        PutsEntry told name (viewed_pair pair) draft.new result }
+        PutsEntry told name (viewed_pair pair.entry) draft.new result }
     ensures part { OnOk result (draft.new.part ≡ draft.old.part) }
 {
-    let (place, value) = take_pair(&draft.program, &mut draft.given, column, pair)?;
-    if place == 0 {
-        draft.program.set_cost(column, value);
-    } else {
-        draft.program.set_entry(place - 1, column, value);
-    }
+    let count = draft.program.columns();
+    prove!(column < count);
+    let (target, value) = take_pair(&draft.program, &mut draft.given, column, pair)?;
+    set_number(&mut draft.program, target, column, value);
     Ok(())
 }
 

@@ -22,6 +22,8 @@ fn put_multiplier(draft: &mut Draft, line: &[u8]) -> Result<(), ReadStop>
     let Some(place) = draft.program.find_row(pair.row) else {
         return Err(ReadStop::NotPlain);
     };
+    let count = draft.program.rows();
+    prove!(place < count);
     if place < draft.next_row {
         return Err(ReadStop::NotPlain);
     }

@@ -18,22 +18,20 @@ use std::alloc::Global;
 
 /// The sides of a row whose right side is 0.
 fn start_sides(kind: RowKind) -> Row
-    ensures sides { result ≡ sides_of kind zero_ℚ }
-    ensures row { IsRow result }
+    ensures { result ≡ sides_of kind zero_ℚ }
 {
-    let zero = Some(Frac::whole(0));
     match kind {
         RowKind::AtMost => Row {
             low: None,
-            high: zero,
+            high: Some(Frac::whole(0)),
         },
         RowKind::AtLeast => Row {
-            low: zero,
+            low: Some(Frac::whole(0)),
             high: None,
         },
         RowKind::Equal => Row {
-            low: zero,
-            high: zero,
+            low: Some(Frac::whole(0)),
+            high: Some(Frac::whole(0)),
         },
     }
 }

@@ -1,31 +1,39 @@
 // Lines of RHS.
 
 ghost use Rattle.std.specs.Prelude.{◌≡◌, ◌<◌, length, IfOk, OnOk, Some, List, ℕ};
-ghost use Rattle.program_law.specs.Program.{IsRow};
+ghost use Rattle.std.specs.Option.{option_map};
 ghost use Rattle.plain_lines.specs.declared.words.Part.TheVariants.{Sides};
 ghost use Rattle.plain_lines.specs.Numbers.{moved};
 ghost use Rattle.plain_lines.specs.Told.{Told};
 ghost use Rattle.plain_lines.specs.Views.{viewed_pair};
 ghost use Rattle.plain_reader.specs.Drafts.{Holds, text_in};
-ghost use Rattle.plain_reader.specs.Steps.{TakesSet, PutsSide, TakesData};
+ghost use Rattle.plain_reader.specs.Steps.{TakesSet, PutsSide, SetsSide, IsWithin, TakesData};
 
 use crate::draft::Draft;
-use crate::marks::take_pair;
+use crate::marks::{Target, take_pair};
 use crate::stop::ReadStop;
 use frac_core::Frac;
 use plain_lines::{Pair, entries_line, is_name};
-use program_model::Row;
+use program_model::{Program, Row};
 use std::alloc::Global;
+
+/// Another number in the place of one.
+fn replaced(side: Option<Frac>, value: Frac) -> Option<Frac>
+    ensures { result ≡ option_map (λ old. value) side }
+{
+    match side {
+        Some(_) => Some(value),
+        None => None,
+    }
+}
 
 /// The sides that a row has, with another number.
 fn moved_sides(row: Row, value: Frac) -> Row
-    requires { IsRow row }
-    ensures sides { result ≡ moved row value }
-    ensures row { IsRow result }
+    ensures { result ≡ moved row value }
 {
     Row {
-        low: row.low.map(|_| value),
-        high: row.high.map(|_| value),
+        low: replaced(row.low, value),
+        high: replaced(row.high, value),
     }
 }
 
@@ -47,19 +55,28 @@ fn take_set(alloc: Global, set: &mut Option<Vec<u8>>, name: &[u8]) -> Result<(),
     Ok(())
 }
 
+/// The right side of a row, or the constant, which is the objective's right side subtracted.
+fn set_side(program: &mut Program, target: Target, value: Frac)
+    requires { IsWithin program.old target }
+    ensures { SetsSide program.old program.new target value }
+{
+    match target {
+        Target::Objective => program.set_constant(-value),
+        Target::Row(row) => {
+            let sides = moved_sides(program.row(row), value);
+            program.set_row(row, sides);
+        }
+    }
+}
+
 /// A pair of RHS.
 fn put_side(draft: &mut Draft, pair: Pair<'_>) -> Result<(), ReadStop>
     requires { length draft.old.sided ≡ 129 }
-    ensures side { (told : Told) → Holds told draft.old → PutsSide told (viewed_pair pair) draft.new result }
+    ensures side { (told : Told) → Holds told draft.old → PutsSide told (viewed_pair pair.entry) draft.new result }
     ensures part { OnOk result (draft.new.part ≡ draft.old.part) }
 {
-    let (place, value) = take_pair(&draft.program, &mut draft.sided, 0, pair)?;
-    if place == 0 {
-        draft.program.set_constant(-value);
-    } else {
-        let sides = moved_sides(draft.program.row(place - 1), value);
-        draft.program.set_row(place - 1, sides);
-    }
+    let (target, value) = take_pair(&draft.program, &mut draft.sided, 0, pair)?;
+    set_side(&mut draft.program, target, value);
     Ok(())
 }
 
