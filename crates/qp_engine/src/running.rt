@@ -46,9 +46,11 @@ fn answer_to<S: Source>(alloc: Global, source: &mut S) -> Result<Answer, NoAnswe
     ensures due { IfOk result (λ a. IfSome (S.left source.old) (λ input. a ≡ due input)) }
     ensures no_point { IfOk result (λ a. a.status ≡ Status.Done → IfSome (S.left source.old) NoPoint) }
     ensures no_usage { IfOk result (λ a. a.status ≢ Status.Usage) }
-    ensures fault { IsErrOf result NoAnswer.ReadFault → Rose (S.faults source.old) (S.faults source.new) }
+    ensures fault { IsErrOf result NoAnswer.ReadFault →
+        Rose (S.faults source.old) (S.faults source.new) }
     ensures kept { OnOk result (S.faults source.new ≡ S.faults source.old) }
-    ensures kept_memory { IsErrOf result NoAnswer.Memory → S.faults source.new ≡ S.faults source.old }
+    ensures kept_memory { IsErrOf result NoAnswer.Memory →
+        S.faults source.new ≡ S.faults source.old }
 {
     match read_all(alloc, source, LONGEST) {
         Ok(input) => Ok(judged(alloc, &input)?),
@@ -72,20 +74,26 @@ fn written<T: Sink>(sink: &mut T, answer: &Answer) -> Status
     }
 }
 
-/// Reads all there is, and writes what is due for it and nothing else.
+/// Runs the program: reads all that the source gives, writes what is due for it, and answers how it ended.
+///
+/// The one task is `check`: the input is a plain program with a certificate of infeasibility that is one FARKAS leaf. On
+/// `Done` the certificate was accepted, and no rational point is feasible for the program. Other words are answered by the
+/// usage line, and nothing is read then. The whole text is built before its first byte is written.
 pub fn run<S: Source, T: Sink>(
     alloc: Global,
     words: &[String],
     source: &mut S,
     sink: &mut T,
 ) -> Status
-    ensures words { is_check words.now ≡ false → Meets usage_due result (T.taken sink.old) (T.taken sink.new) }
+    ensures words { is_check words.now ≡ false →
+        Meets usage_due result (T.taken sink.old) (T.taken sink.new) }
     ensures unread { is_check words.now ≡ false → (source.new ≡ source.old) × (result ≢ Status.ReadFault) }
     ensures usage { result ≡ Status.Usage → is_check words.now ≡ false }
     ensures due { is_check words.now ≡ true →
         IfSome (S.left source.old) (λ input. Meets (due input) result (T.taken sink.old) (T.taken sink.new)) }
     ensures no_point { result ≡ Status.Done → IfSome (S.left source.old) NoPoint }
-    ensures read_fault { result ≡ Status.ReadFault → Rose (S.faults source.old) (S.faults source.new) }
+    ensures read_fault { result ≡ Status.ReadFault →
+        Rose (S.faults source.old) (S.faults source.new) }
     ensures nothing_taken { result ≡ Status.ReadFault → Keeps (T.taken sink.old) (T.taken sink.new) }
     ensures write_fault { result ≡ Status.WriteFault → Rose (T.faults sink.old) (T.faults sink.new) }
     ensures reads_count { result ≢ Status.ReadFault → S.faults source.new ≡ S.faults source.old }
