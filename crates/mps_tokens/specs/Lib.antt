@@ -1,0 +1,4 @@
+pub mod Lines
+pub mod FieldsOf
+pub mod Cases
+pub mod Written
