@@ -2,3 +2,6 @@ pub mod Lines
 pub mod FieldsOf
 pub mod Cases
 pub mod Written
+pub mod Spelling
+pub mod Numbers
+pub mod Running

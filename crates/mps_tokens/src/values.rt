@@ -1,0 +1,84 @@
+//! Numbers from a whole number and a power of ten.
+
+ghost use Rattle.std.specs.Prelude.{◌≡◌, ◌+◌, ◌*◌, ◌^◌, ◌<◌, ◌≤◌, ℕ, Ok};
+ghost use Rattle.rational.specs.Rational.{fraction};
+ghost use Rattle.frac_core.specs.Parts.{max_part};
+ghost use Rattle.frac_core.specs.Signed.{signed};
+ghost use Rattle.mps_tokens.specs.Numbers.{fitted, decimal_value, up_of, down_of};
+ghost use Rattle.mps_tokens.specs.Running.{IsCapped, AreDigitsOf};
+
+use crate::digits::Digits;
+use crate::fault::NumberFault;
+use crate::natural::{MOST_ZEROS, Natural, power_of_ten};
+use frac_core::{Frac, Tried};
+
+/// A fraction from its sign and its two numbers.
+pub(crate) fn ratio(negative: bool, top: u128, bottom: u128) -> Result<Frac, NumberFault>
+    requires top { top ≤ max_part }
+    requires bottom { (0 < bottom) × (bottom ≤ max_part) }
+    ensures { result ≡ Ok (fraction (signed negative top) bottom) }
+{
+    let size = top as i128;
+    let top = if negative { -size } else { size };
+    Frac::of_parts(top, bottom as i128).map_err(|_| NumberFault::Past)
+}
+
+/// A number divided by 10 to a power.
+fn lowered(negative: bool, top: u128, power: u128) -> Result<Frac, NumberFault>
+    requires { (0 < top) × (top ≤ max_part) }
+    ensures { result ≡ fitted (fraction (signed negative top) (10 ^ power)) }
+{
+    if power > 2 * MOST_ZEROS {
+        return Err(NumberFault::Past);
+    }
+    let first = power.min(MOST_ZEROS);
+    let rest = Frac::whole(power_of_ten(power - first) as i128);
+    let number = ratio(negative, top, power_of_ten(first))?;
+    match number / rest {
+        Tried::Is(number) => Ok(number),
+        Tried::Past(_) => Err(NumberFault::Past),
+    }
+}
+
+/// A number times 10 to the power `up - down`.
+fn shifted(negative: bool, top: u128, up: u128, down: u128) -> Result<Frac, NumberFault>
+    requires { (0 < top) × (top ≤ max_part) }
+    ensures { result ≡ fitted (fraction (signed negative (top * 10 ^ up)) (10 ^ down)) }
+{
+    if up < down {
+        return lowered(negative, top, down - up);
+    }
+    match Natural::Fits(top).raised(up - down) {
+        Natural::Fits(top) => ratio(negative, top, 1),
+        Natural::Past => Err(NumberFault::Past),
+    }
+}
+
+/// An exponent, by its sign and its size.
+#[derive(Clone, Copy)]
+pub(crate) struct Exponent {
+    pub(crate) negative: bool,
+    pub(crate) size: Natural,
+}
+
+/// The number with these digits, of which so many stand behind the point, and this exponent.
+pub(crate) fn decimal(negative: bool, digits: Digits, places: usize, exponent: Exponent) -> Result<Frac, NumberFault>
+    ensures { (v e : ℕ) → AreDigitsOf v digits → IsCapped e exponent.size → result ≡ decimal_value negative v (up_of exponent.negative e) (places + down_of exponent.negative e) }
+{
+    let Natural::Fits(top) = digits.size else {
+        return Err(NumberFault::Past);
+    };
+    if top == 0 {
+        return Ok(Frac::whole(0));
+    }
+    let Natural::Fits(size) = exponent.size else {
+        return Err(NumberFault::Past);
+    };
+    let zeros = digits.zeros as u128;
+    let places = places as u128;
+    if exponent.negative {
+        shifted(negative, top, zeros, places + size)
+    } else {
+        shifted(negative, top, zeros + size, places)
+    }
+}
