@@ -10,10 +10,10 @@ entry_of c = (take c.length c.text, c.number)
 abbrev pub entries_of : List Case → List (List ℕ × ℕ)
 entries_of table = map entry_of table
 
--- the number of the first entry with this word
-abbrev pub number_of : List (List ℕ × ℕ) → List ℕ → Option ℕ
-number_of [] word = None
-number_of (e ∷ es) word = if bytes_eq e.0 word then Some e.1 else number_of es word
+-- what stands beside this word, where it stands first
+abbrev pub named : {E : Type 0} → List (List ℕ × E) → List ℕ → Option E
+named [] word = None
+named (e ∷ es) word = if bytes_eq e.0 word then Some e.1 else named es word
 
 -- no entry has this word
 abbrev pub is_absent : List (List ℕ × ℕ) → List ℕ → Bool

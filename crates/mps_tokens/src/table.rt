@@ -1,7 +1,7 @@
 //! Tables of words.
 
 ghost use Rattle.std.specs.Prelude.{◌≡◌, ◌<◌, ◌≤◌, ◌-◌, ◌++◌, length, take, replicate, IsTrue, Some};
-ghost use Rattle.mps_tokens.specs.Cases.{entry_of, entries_of, number_of, has_distinct_words, row_kind_table, section_table, bound_kind_table, certificate_table};
+ghost use Rattle.mps_tokens.specs.Cases.{entry_of, entries_of, named, has_distinct_words, row_kind_table, section_table, bound_kind_table, certificate_table};
 
 use crate::case::Case;
 
@@ -99,10 +99,10 @@ pub fn certificate_words() -> [Case; 17]
     }
 }
 
-/// The number of the case with this word.
+/// The number of the case with this word, or None where there is none. The words of the table are distinct.
 pub fn find<const N: usize>(table: &[Case; N], word: &[u8]) -> Option<u8>
     requires { IsTrue (has_distinct_words (entries_of table.now)) }
-    ensures { result ≡ number_of (entries_of table.now) word.now }
+    ensures { result ≡ named (entries_of table.now) word.now }
 {
     for case in table {
         if &case.text[..case.length as usize] == word {
