@@ -1,3 +1,5 @@
 pub mod FirstLine
 pub mod FirstField
 pub mod Joined
+pub mod Tens
+pub mod ReadDigits
