@@ -3,3 +3,4 @@ pub mod FirstField
 pub mod Joined
 pub mod Tens
 pub mod ReadDigits
+pub mod PowerValues

@@ -21,6 +21,7 @@ pub(crate) enum Natural {
 pub(crate) fn power_of_ten(power: u128) -> u128
     requires { power ≤ 38 }
     ensures value { result ≡ 10 ^ power }
+    ensures positive { 0 < result }
     ensures fits { result ≤ max_part }
 {
     10u128.pow(power as u32)

@@ -1,7 +1,7 @@
 //! Numbers from a whole number and a power of ten.
 
-ghost use Rattle.std.specs.Prelude.{◌≡◌, ◌+◌, ◌*◌, ◌^◌, ◌<◌, ◌≤◌, ℕ, Ok};
-ghost use Rattle.rational.specs.Rational.{fraction};
+ghost use Rattle.std.specs.Prelude.{◌≡◌, ◌≢◌, ◌+◌, ◌*◌, ◌^◌, ◌<◌, ◌≤◌, ℕ, Ok, pos};
+ghost use Rattle.rational.specs.Rational.{fraction, ◌/ℚ◌};
 ghost use Rattle.frac_core.specs.Parts.{max_part};
 ghost use Rattle.frac_core.specs.Signed.{signed};
 ghost use Rattle.mps_tokens.specs.Numbers.{fitted, decimal_value, up_of, down_of};
@@ -12,15 +12,36 @@ use crate::fault::NumberFault;
 use crate::natural::{MOST_ZEROS, Natural, power_of_ten};
 use frac_core::{Frac, Tried};
 
+/// A whole number from its sign and its size.
+fn with_sign(negative: bool, size: u128) -> i128
+    requires { size ≤ max_part }
+    ensures { result ≡ signed negative size }
+{
+    let size = size as i128;
+    if negative { -size } else { size }
+}
+
 /// A fraction from its sign and its two numbers.
 pub(crate) fn ratio(negative: bool, top: u128, bottom: u128) -> Result<Frac, NumberFault>
     requires top { top ≤ max_part }
     requires bottom { (0 < bottom) × (bottom ≤ max_part) }
     ensures { result ≡ Ok (fraction (signed negative top) bottom) }
 {
-    let size = top as i128;
-    let top = if negative { -size } else { size };
-    Frac::of_parts(top, bottom as i128).map_err(|_| NumberFault::Past)
+    match Frac::of_parts(with_sign(negative, top), bottom as i128) {
+        Ok(number) => Ok(number),
+        Err(_) => Err(NumberFault::Past),
+    }
+}
+
+/// One number divided by another.
+fn quotient(number: Frac, divisor: Frac) -> Result<Frac, NumberFault>
+    requires { divisor.num ≢ pos 0 }
+    ensures { result ≡ fitted (number /ℚ divisor) }
+{
+    match number / divisor {
+        Tried::Is(number) => Ok(number),
+        Tried::Past(_) => Err(NumberFault::Past),
+    }
 }
 
 /// A number divided by 10 to a power.
@@ -32,12 +53,9 @@ fn lowered(negative: bool, top: u128, power: u128) -> Result<Frac, NumberFault>
         return Err(NumberFault::Past);
     }
     let first = power.min(MOST_ZEROS);
-    let rest = Frac::whole(power_of_ten(power - first) as i128);
     let number = ratio(negative, top, power_of_ten(first))?;
-    match number / rest {
-        Tried::Is(number) => Ok(number),
-        Tried::Past(_) => Err(NumberFault::Past),
-    }
+    let rest = Frac::whole(power_of_ten(power - first) as i128);
+    quotient(number, rest)
 }
 
 /// A number times 10 to the power `up - down`.
@@ -63,6 +81,8 @@ pub(crate) struct Exponent {
 
 /// The number with these digits, of which so many stand behind the point, and this exponent.
 pub(crate) fn decimal(negative: bool, digits: Digits, places: usize, exponent: Exponent) -> Result<Frac, NumberFault>
+    requires digits { (v : ℕ) × AreDigitsOf v digits }
+    requires exponent { (e : ℕ) × IsCapped e exponent.size }
     ensures { (v e : ℕ) → AreDigitsOf v digits → IsCapped e exponent.size → result ≡ decimal_value negative v (up_of exponent.negative e) (places + down_of exponent.negative e) }
 {
     let Natural::Fits(top) = digits.size else {
