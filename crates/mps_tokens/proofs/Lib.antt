@@ -4,3 +4,4 @@ pub mod Joined
 pub mod Tens
 pub mod ReadDigits
 pub mod PowerValues
+pub mod DecimalValues

@@ -1,5 +1,5 @@
 -- Fractions whose denominator is a power of ten.
-use Rattle.std.proofs.Common.{◌≡◌, ◌≢◌, ℕ, ℤ, pos, negsuc, neg_ℤ, to_z, of_z, zero, suc, ◌+◌, ◌-◌, ◌*◌, ◌/◌, ◌^◌, ◌<◌, ◌≤◌, ◌*ℤ◌, [], ◌∷◌, Bool, true, false, Ok, Err, Result, refl, sym, ap, ◌∙◌, subst, arith, lit<, lit≤, mul-pos, zero-le, suc-le-suc}
+use Rattle.std.proofs.Common.{◌≡◌, ◌≢◌, ℕ, min, ℤ, pos, negsuc, neg_ℤ, to_z, of_z, zero, suc, ◌+◌, ◌-◌, ◌*◌, ◌/◌, ◌^◌, ◌<◌, ◌≤◌, ◌*ℤ◌, [], ◌∷◌, Bool, true, false, Ok, Err, Result, refl, sym, ap, ◌∙◌, subst, arith, lit<, lit≤, mul-pos, zero-le, suc-le-suc}
 use Rattle.std.specs.Prelude.{unsigned_abs, int_div, int_lt, if◌then◌else◌}
 use Rattle.std.specs.Int.{w128}
 use Rattle.std.proofs.lemmas.Int.{ints, unsigned_abs-mul}
@@ -158,3 +158,18 @@ shift_up negative m up down h =
     ap (λ (t : ℕ). fraction (signed negative t) (10 ^ down)) e
     ∙ ap (λ (d : ℕ). fraction (signed negative (m * 10 ^ (up - down) * 10 ^ down)) d) (sym (mul-one (10 ^ down)))
     ∙ cancel_power negative (m * 10 ^ (up - down)) (10 ^ down) 1 (ten_pos down) (lit< tt)
+
+-- first by one power of ten and then by another
+pub lowered_twice : (negative : Bool) (top power first one two : ℕ) (number rest : ℚ) → first ≡ min power 38 → one ≡ 10 ^ first → two ≡ 10 ^ (power - first) → two ≤ max_part
+    → number ≡ fraction (signed negative top) one → rest ≡ whole (to_z w128 two) → number /ℚ rest ≡ fraction (signed negative top) (10 ^ power)
+lowered_twice negative top power first one two number rest f a b h n r =
+    let z : to_z w128 two ≡ pos two = omega (arith, ints) in
+    let le : first ≤ power = omega arith in
+    rw (n, r, z, a, b) (divided_power (signed negative top) (10 ^ first) (10 ^ (power - first)) (ten_pos first) (ten_pos (power - first))
+    ∙ ap (fraction (signed negative top)) (split_power first power le))
+
+pub whole_some : (two k : ℕ) (rest : ℚ) → two ≡ 10 ^ k → two ≤ max_part → rest ≡ whole (to_z w128 two) → rest.num ≢ pos 0
+whole_some two k rest b h r e =
+    let z : to_z w128 two ≡ pos two = omega (arith, ints) in
+    let same : rest ≡ whole (pos two) = r ∙ ap whole z in
+    whole_num two (subst (λ (n : ℕ). 0 < n) (sym b) (ten_pos k)) (ap (λ (q : ℚ). q.num) (sym same) ∙ e)

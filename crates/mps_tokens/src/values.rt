@@ -85,6 +85,8 @@ pub(crate) fn decimal(negative: bool, digits: Digits, places: usize, exponent: E
     requires exponent { (e : ℕ) × IsCapped e exponent.size }
     ensures { (v e : ℕ) → AreDigitsOf v digits → IsCapped e exponent.size → result ≡ decimal_value negative v (up_of exponent.negative e) (places + down_of exponent.negative e) }
 {
+    let zeros = digits.zeros as u128;
+    let places = places as u128;
     let Natural::Fits(top) = digits.size else {
         return Err(NumberFault::Past);
     };
@@ -94,8 +96,6 @@ pub(crate) fn decimal(negative: bool, digits: Digits, places: usize, exponent: E
     let Natural::Fits(size) = exponent.size else {
         return Err(NumberFault::Past);
     };
-    let zeros = digits.zeros as u128;
-    let places = places as u128;
     if exponent.negative {
         shifted(negative, top, zeros, places + size)
     } else {
