@@ -2,7 +2,7 @@
 
 ghost use Rattle.std.specs.Prelude.{◌≡◌};
 ghost use Rattle.mps_tokens.specs.Cases.{named};
-ghost use Rattle.mps_tokens.specs.Words.{section_names, row_kind_names, bound_kind_names, certificate_word_names};
+ghost use Rattle.mps_tokens.specs.Words.{section_names, row_kind_names, bound_kind_names, certificate_word_names, certificate_word_numbered};
 
 use crate::table::{bound_kinds, certificate_words, find, row_kinds, sections};
 
@@ -159,11 +159,11 @@ pub fn bound_kind_of(word: &[u8]) -> Option<BoundKind>
     }
 }
 
-/// The word of a certificate with this word, or None where there is none.
-pub fn certificate_word_of(word: &[u8]) -> Option<CertificateWord>
-    ensures { result ≡ named certificate_word_names word.now }
+/// The word of a certificate with this number.
+fn certificate_word(number: u8) -> Option<CertificateWord>
+    ensures { result ≡ certificate_word_numbered number }
 {
-    match find(&certificate_words(), word)? {
+    match number {
         1 => Some(CertificateWord::Optimal),
         2 => Some(CertificateWord::Infeasible),
         3 => Some(CertificateWord::Unbounded),
@@ -182,5 +182,15 @@ pub fn certificate_word_of(word: &[u8]) -> Option<CertificateWord>
         16 => Some(CertificateWord::Y),
         17 => Some(CertificateWord::End),
         _ => None,
+    }
+}
+
+/// The word of a certificate, or None where there is none.
+pub fn certificate_word_of(word: &[u8]) -> Option<CertificateWord>
+    ensures { result ≡ named certificate_word_names word.now }
+{
+    match find(&certificate_words(), word) {
+        Some(number) => certificate_word(number),
+        None => None,
     }
 }
