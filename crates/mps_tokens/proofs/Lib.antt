@@ -6,3 +6,4 @@ pub mod Named
 pub mod ReadDigits
 pub mod PowerValues
 pub mod DecimalValues
+pub mod NumberParts

@@ -10,7 +10,7 @@ ghost use Rattle.mps_tokens.specs.Running.{IsCapped, AreDigitsOf};
 use crate::digits::{Digits, digits_of, with_digits};
 use crate::fault::NumberFault;
 use crate::natural::Natural;
-use crate::values::{Exponent, decimal, ratio};
+use crate::values::{Exponent, decimal, fraction};
 use frac_core::Frac;
 
 /// Whether there is a minus sign, and what stands behind the sign.
@@ -135,13 +135,7 @@ fn fraction_number(negative: bool, top: &[u8], bottom: &[u8]) -> Result<Frac, Nu
     let Some(bottom) = numeral(bottom) else {
         return Err(NumberFault::NotNumber);
     };
-    if let Natural::Fits(0) = bottom {
-        return Err(NumberFault::NotNumber);
-    }
-    match (top, bottom) {
-        (Natural::Fits(top), Natural::Fits(bottom)) => ratio(negative, top, bottom),
-        _ => Err(NumberFault::Past),
-    }
+    fraction(negative, top, bottom)
 }
 
 /// The number that the bytes spell.

@@ -1,10 +1,10 @@
 //! Numbers from a whole number and a power of ten.
 
-ghost use Rattle.std.specs.Prelude.{◌≡◌, ◌≢◌, ◌+◌, ◌*◌, ◌^◌, ◌<◌, ◌≤◌, ℕ, Ok, pos};
+ghost use Rattle.std.specs.Prelude.{◌≡◌, ◌≢◌, ◌==◌, if◌then◌else◌, ◌+◌, ◌*◌, ◌^◌, ◌<◌, ◌≤◌, ℕ, Ok, pos};
 ghost use Rattle.rational.specs.Rational.{fraction, ◌/ℚ◌};
 ghost use Rattle.frac_core.specs.Parts.{max_part};
 ghost use Rattle.frac_core.specs.Signed.{signed};
-ghost use Rattle.mps_tokens.specs.Numbers.{fitted, decimal_value, up_of, down_of};
+ghost use Rattle.mps_tokens.specs.Numbers.{fitted, decimal_value, fraction_value, up_of, down_of};
 ghost use Rattle.mps_tokens.specs.Running.{IsCapped, AreDigitsOf};
 
 use crate::digits::Digits;
@@ -31,6 +31,24 @@ pub(crate) fn ratio(negative: bool, top: u128, bottom: u128) -> Result<Frac, Num
         Ok(number) => Ok(number),
         Err(_) => Err(NumberFault::Past),
     }
+}
+
+/// A fraction of two numerals, which is no number where the second is 0.
+pub(crate) fn fraction(negative: bool, top: Natural, bottom: Natural) -> Result<Frac, NumberFault>
+    requires top { (p : ℕ) × IsCapped p top }
+    requires bottom { (q : ℕ) × IsCapped q bottom }
+    ensures { (p q : ℕ) → IsCapped p top → IsCapped q bottom → result ≡ (if q == 0 then Err NumberFault.NotNumber else fraction_value negative p q) }
+{
+    let Natural::Fits(bottom) = bottom else {
+        return Err(NumberFault::Past);
+    };
+    if bottom == 0 {
+        return Err(NumberFault::NotNumber);
+    }
+    let Natural::Fits(top) = top else {
+        return Err(NumberFault::Past);
+    };
+    ratio(negative, top, bottom)
 }
 
 /// One number divided by another.
