@@ -9,7 +9,7 @@ use Rattle.rational.specs.Rational.{ℚ, zero_ℚ, fraction}
 use Rattle.frac_core.specs.Parts.{max_part}
 use Rattle.frac_core.specs.Signed.{signed}
 use Rattle.mps_tokens.specs.declared.natural.Natural.{Natural}
-use Rattle.mps_tokens.specs.declared.natural.Natural.TheVariants.{Fits} 
+use Rattle.mps_tokens.specs.declared.natural.Natural.TheVariants.{Fits}
 use Rattle.mps_tokens.specs.declared.natural.Natural.TheVariants as natural
 use Rattle.mps_tokens.specs.declared.fault.NumberFault.TheVariants.{Past}
 use Rattle.mps_tokens.specs.Numbers.{fitted, shortened, decimal_value, up_of, down_of}

@@ -7,3 +7,4 @@ pub mod ReadDigits
 pub mod PowerValues
 pub mod DecimalValues
 pub mod NumberParts
+pub mod Spelt

@@ -22,7 +22,10 @@ pub use parts::Parts;
 pub use spans::Fields;
 pub use splitting::fields;
 pub use table::{bound_kinds, certificate_words, find, row_kinds, sections};
-pub use words::{BoundKind, CertificateWord, RowKind, Section, bound_kind_of, certificate_word_of, row_kind_of, section_of};
+pub use words::{
+    BoundKind, CertificateWord, RowKind, Section, bound_kind_of, certificate_word_of, row_kind_of,
+    section_of,
+};
 
 #[cfg(test)]
 mod tests;

@@ -98,7 +98,12 @@ pub(crate) struct Exponent {
 }
 
 /// The number with these digits, of which so many stand behind the point, and this exponent.
-pub(crate) fn decimal(negative: bool, digits: Digits, places: usize, exponent: Exponent) -> Result<Frac, NumberFault>
+pub(crate) fn decimal(
+    negative: bool,
+    digits: Digits,
+    places: usize,
+    exponent: Exponent,
+) -> Result<Frac, NumberFault>
     requires digits { (v : ℕ) × AreDigitsOf v digits }
     requires exponent { (e : ℕ) × IsCapped e exponent.size }
     ensures { (v e : ℕ) → AreDigitsOf v digits → IsCapped e exponent.size → result ≡ decimal_value negative v (up_of exponent.negative e) (places + down_of exponent.negative e) }

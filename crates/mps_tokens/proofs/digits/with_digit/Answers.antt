@@ -6,9 +6,8 @@ pub returns-then-digit-eq0-clause-value : goal.returns-then-digit-eq0-clause-val
 returns-then-digit-eq0-clause-value c = λ v h. (h.0, zero_more v h.0 c.args.digits.zeros c.args.digit c.if-digit-eq0.true h.1, h.2)
 
 pub returns-clause-value : goal.returns-clause-value
-returns-clause-value c = λ v h.
-    (
-      h.0 * 10 ^ (c.args.digits.zeros + 1) + c.args.digit,
-      digit_more v h.0 c.args.digits.zeros c.args.digit c.if-digit-eq0.false c.requires.digit h.1,
-      c.plus-size.ensures (h.0 * 10 ^ (c.args.digits.zeros + 1)) (c.raised.ensures h.0 h.2),
-    )
+returns-clause-value c = λ v h. (
+  h.0 * 10 ^ (c.args.digits.zeros + 1) + c.args.digit,
+  digit_more v h.0 c.args.digits.zeros c.args.digit c.if-digit-eq0.false c.requires.digit h.1,
+  c.plus-size.ensures (h.0 * 10 ^ (c.args.digits.zeros + 1)) (c.raised.ensures h.0 h.2),
+)

@@ -1,4 +1,3 @@
-use Rattle.std.proofs.Common.{subst, sym}
 use Rattle.mps_tokens.proofs.Tens.{power_fits, power_in_word, ten_pos}
 use Rattle.mps_tokens.proofs.natural.power_of_ten.Goals as goal
 

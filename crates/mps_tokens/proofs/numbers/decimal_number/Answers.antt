@@ -1,4 +1,4 @@
-use Rattle.std.proofs.Common.{refl, sym, ◌∙◌, arith, zero-le}
+use Rattle.std.proofs.Common.{refl, sym, ◌∙◌, zero-le}
 use Rattle.std.specs.Str.Parse.{digits_value}
 use Rattle.mps_tokens.specs.Spelling.{without_point}
 use Rattle.mps_tokens.proofs.NumberParts.{unmarked, bad_exponent}

@@ -1,6 +1,6 @@
 use Rattle.std.proofs.Common.{◌+◌, ◌<◌, length, arith}
 use Rattle.std.proofs.lemmas.Grind.{common_steps}
-use Rattle.std.specs.Str.Parse.{digits_value, digits_value_after}
+use Rattle.std.specs.Str.Parse.{digits_value_after}
 use Rattle.mps_tokens.proofs.NumberParts.{mantissa_is}
 use Rattle.mps_tokens.proofs.numbers.mantissa.Goals as goal
 use Rattle.mps_tokens.proofs.numbers.mantissa.Goals.{else-is_empty-via-then-is_empty+else-is_empty-2, else-is_empty-via-else-is_empty}

@@ -1,4 +1,4 @@
-use Rattle.std.proofs.Common.{sym, ◌∙◌, arith}
+use Rattle.std.proofs.Common.{◌∙◌}
 use Rattle.mps_tokens.proofs.NumberParts.{slashed, unslashed}
 use Rattle.mps_tokens.proofs.numbers.number.Goals as goal
 

@@ -1,6 +1,5 @@
-use Rattle.std.proofs.Common.{◌≡◌, ◌≢◌, ◌+◌, ◌^◌, ◌<◌, ◌≤◌, ℕ, sym, ap, ◌∙◌, arith}
+use Rattle.std.proofs.Common.{◌≢◌, ◌^◌, ◌<◌, ◌≤◌, sym, ◌∙◌, arith}
 use Rattle.frac_core.specs.Parts.{max_part}
-use Rattle.mps_tokens.specs.Numbers.{up_of, down_of}
 use Rattle.mps_tokens.proofs.DecimalValues.{capped_is, capped_past, short_value, past_value, zero_value, far, below_value, above_value}
 use Rattle.mps_tokens.proofs.values.decimal.Goals as goal
 

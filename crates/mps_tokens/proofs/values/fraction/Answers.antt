@@ -1,4 +1,4 @@
-use Rattle.std.proofs.Common.{◌≡◌, ◌≢◌, ◌≤◌, ℕ, sym, ap, ◌∙◌, arith}
+use Rattle.std.proofs.Common.{◌≢◌, ◌≤◌, ◌∙◌, arith}
 use Rattle.frac_core.specs.Parts.{max_part}
 use Rattle.mps_tokens.proofs.DecimalValues.{capped_is, capped_past}
 use Rattle.mps_tokens.proofs.NumberParts.{fraction_small, top_past, bottom_past}

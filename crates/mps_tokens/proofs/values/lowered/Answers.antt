@@ -1,5 +1,5 @@
 use Rattle.std.proofs.Common.{◌≡◌, ◌-◌, sym, ap, ◌∙◌}
-use Rattle.rational.specs.Rational.{ℚ, fraction}
+use Rattle.rational.specs.Rational.{fraction}
 use Rattle.frac_core.specs.Signed.{signed}
 use Rattle.mps_tokens.specs.Numbers.{fitted}
 use Rattle.mps_tokens.proofs.PowerValues.{too_fine, lowered_twice, whole_some}

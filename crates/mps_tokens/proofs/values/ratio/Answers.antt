@@ -1,6 +1,4 @@
-use Rattle.std.proofs.Common.{◌≡◌, Ok, ap, Result}
-use Rattle.rational.specs.Rational.{fraction}
-use Rattle.frac_core.specs.Signed.{signed}
+use Rattle.std.proofs.Common.{Ok, ap}
 use Rattle.mps_tokens.proofs.PowerValues.{made, same_ok}
 use Rattle.mps_tokens.proofs.values.ratio.Goals as goal
 

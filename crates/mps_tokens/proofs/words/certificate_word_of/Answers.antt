@@ -1,4 +1,4 @@
-use Rattle.std.proofs.Common.{◌≡◌, ℕ, Option, Some, None, refl, sym, ap, ◌∙◌}
+use Rattle.std.proofs.Common.{◌≡◌, refl, sym, ap, ◌∙◌}
 use Rattle.mps_tokens.specs.Cases.{named, certificate_table}
 use Rattle.mps_tokens.specs.Words.{certificate_word_names, certificate_word_numbered}
 use Rattle.mps_tokens.proofs.Named.{by_number, named_by_number}
