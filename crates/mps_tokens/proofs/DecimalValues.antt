@@ -1,11 +1,11 @@
 -- What a mantissa and an exponent stand for.
-use Rattle.std.proofs.Common.{◌≡◌, ◌≢◌, ℕ, zero, suc, ◌+◌, ◌-◌, ◌*◌, ◌^◌, ◌<◌, ◌≤◌, Bool, true, false, Ok, Err, refl, sym, ap, ◌∙◌, subst, arith, lit<, mul-pos}
-use Rattle.std.specs.Prelude.{nat_lt, ◌==◌, if◌then◌else◌}
+use Rattle.std.proofs.Common.{◌≡◌, ◌≢◌, ℕ, zero, suc, ◌+◌, ◌-◌, ◌*◌, ◌^◌, ◌<◌, ◌≤◌, Bool, true, false, Ok, Err, refl, sym, ap, ◌∙◌, subst, arith, mul-pos}
+use Rattle.std.specs.Prelude.{nat_lt, ◌==◌}
 use Rattle.std.proofs.lemmas.Nat.{pow-add}
 use Rattle.std.proofs.lemmas.Bool.{ne_eqb, eq-eqb}
 use Rattle.std.proofs.lemmas.Bool.Decides.{nat_tests}
-use Rattle.std.proofs.Math.Nat.{mul_assoc, lt_of_lt_of_le, le-mul_of_pos_right}
-use Rattle.rational.specs.Rational.{ℚ, zero_ℚ, fraction}
+use Rattle.std.proofs.Math.Nat.{mul_assoc}
+use Rattle.rational.specs.Rational.{zero_ℚ, fraction}
 use Rattle.frac_core.specs.Parts.{max_part}
 use Rattle.frac_core.specs.Signed.{signed}
 use Rattle.mps_tokens.specs.declared.natural.Natural.{Natural}

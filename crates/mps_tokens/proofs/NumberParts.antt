@@ -1,10 +1,10 @@
 -- The parts of a spelling.
-use Rattle.std.proofs.Common.{◌≡◌, ◌≢◌, ℕ, zero, suc, ◌+◌, ◌*◌, ◌^◌, ◌<◌, ◌≤◌, Bool, true, false, List, [], ◌∷◌, ◌++◌, length, take, drop, get_or, Ok, Err, Result, refl, sym, ap, ◌∙◌, subst, arith, length-append}
-use Rattle.std.specs.Prelude.{◌&&◌, ◌||◌, ◌==◌, not, nat_lt, if◌then◌else◌}
-use Rattle.std.specs.List.{list_all, list_any, position_or_len, before_first, after_first, All}
+use Rattle.std.proofs.Common.{◌≡◌, ◌≢◌, ℕ, ◌+◌, ◌*◌, ◌^◌, ◌<◌, ◌≤◌, Bool, true, false, List, [], ◌++◌, length, take, drop, Ok, Err, Result, refl, sym, ap, ◌∙◌, subst, arith, length-append}
+use Rattle.std.specs.Prelude.{◌&&◌, ◌||◌, ◌==◌, nat_lt, if◌then◌else◌}
+use Rattle.std.specs.List.{list_all, list_any, position_or_len}
 use Rattle.std.specs.Char.{is_ascii_digit}
 use Rattle.std.specs.Str.Parse.{digits_value, digits_value_after}
-use Rattle.std.proofs.lemmas.Bool.{ne_eqb, eq-eqb}
+use Rattle.std.proofs.lemmas.Bool.{ne_eqb}
 use Rattle.std.proofs.lemmas.Bool.Decides.{nat_tests}
 use Rattle.std.proofs.lemmas.List.{drop_all}
 use Rattle.std.proofs.lemmas.List.Folds.{list_any_none, list_any_at, list_all-append}
@@ -16,8 +16,8 @@ use Rattle.mps_tokens.specs.declared.digits.Digits.{Digits}
 use Rattle.mps_tokens.specs.declared.natural.Natural.{Natural}
 use Rattle.mps_tokens.specs.declared.fault.NumberFault.{NumberFault}
 use Rattle.mps_tokens.specs.declared.fault.NumberFault.TheVariants.{NotNumber, Past}
-use Rattle.mps_tokens.specs.Spelling.{is_numeral, is_negative, without_sign, is_mark, is_point, is_slash, mantissa_of, exponent_of, without_point, places_of, is_decimal, is_exponent}
-use Rattle.mps_tokens.specs.Numbers.{decimal_value, decimal_from, decimal_of, fraction_value, fraction_of, number_of, up_of, down_of}
+use Rattle.mps_tokens.specs.Spelling.{is_numeral, is_negative, without_sign, is_mark, is_point, is_slash, mantissa_of, exponent_of, without_point, places_of, is_exponent}
+use Rattle.mps_tokens.specs.Numbers.{decimal_value, decimal_of, fraction_value, fraction_of, number_of, up_of, down_of}
 use Rattle.mps_tokens.specs.Running.{IsCapped, AreDigitsOf}
 use Rattle.mps_tokens.proofs.ReadDigits.{after_append}
 

@@ -1,16 +1,16 @@
 -- Fractions whose denominator is a power of ten.
-use Rattle.std.proofs.Common.{◌≡◌, ◌≢◌, ℕ, min, ℤ, pos, negsuc, neg_ℤ, to_z, of_z, zero, suc, ◌+◌, ◌-◌, ◌*◌, ◌/◌, ◌^◌, ◌<◌, ◌≤◌, ◌*ℤ◌, [], ◌∷◌, Bool, true, false, Ok, Err, Result, refl, sym, ap, ◌∙◌, subst, arith, lit<, lit≤, mul-pos, zero-le, suc-le-suc}
-use Rattle.std.specs.Prelude.{unsigned_abs, int_div, int_lt, if◌then◌else◌}
+use Rattle.std.proofs.Common.{◌≡◌, ◌≢◌, ℕ, min, ℤ, pos, negsuc, to_z, of_z, zero, suc, ◌+◌, ◌-◌, ◌*◌, ◌/◌, ◌^◌, ◌<◌, ◌≤◌, ◌*ℤ◌, [], ◌∷◌, Bool, true, false, Ok, Err, Result, refl, sym, ap, ◌∙◌, subst, arith, lit<, lit≤, mul-pos, zero-le, suc-le-suc}
+use Rattle.std.specs.Prelude.{unsigned_abs, int_lt}
 use Rattle.std.specs.Int.{w128}
 use Rattle.std.proofs.lemmas.Int.{ints, unsigned_abs-mul}
 use Rattle.std.proofs.lemmas.Nat.{pow-add}
 use Rattle.std.proofs.lemmas.Bool.Decides.{nat_tests}
-use Rattle.std.proofs.Math.Nat.{pow-le-pow_right, le_trans, lt_of_lt_of_le, mul-le-mul, mul-le-mul_left, mul-le-mul_right, one-mul, mul-one, mul_assoc, mul_comm, div-le_self, not-le_of_lt}
+use Rattle.std.proofs.Math.Nat.{pow-le-pow_right, le_trans, mul-le-mul, mul-le-mul_right, one-mul, mul-one, mul_assoc, mul_comm, div-le_self, not-le_of_lt}
 use Rattle.algebra.proofs.Polynomial.{◌⊗◌, ◌≐◌, lit}
 use Rattle.algebra.proofs.Solver.{ring}
 use Rattle.algebra.proofs.Integers.{integers}
 use Rattle.rational.specs.Divisors.{gcd_of}
-use Rattle.rational.specs.Rational.{ℚ, Fits, fits, fraction, whole, ◌/ℚ◌, abs-quotient, num_of_lowest, den_of_lowest}
+use Rattle.rational.specs.Rational.{ℚ, Fits, fraction, whole, ◌/ℚ◌, abs-quotient, num_of_lowest}
 use Rattle.rational.proofs.Fraction.{IsRatio, IsRatio-fraction, equal_by_ratios}
 use Rattle.rational.proofs.Fits.{fits_yes, fits_no}
 use Rattle.rational.proofs.Pairs.{quotient_is_cross}
@@ -19,10 +19,9 @@ use Rattle.frac_core.specs.declared.fractions.PartsFault.{PartsFault}
 use Rattle.frac_core.specs.Parts.{max_part}
 use Rattle.frac_core.specs.Signed.{signed, abs-signed}
 use Rattle.frac_core.specs.Quotient.{quotient_of, signs_differ, parts_of, fitting}
-use Rattle.mps_tokens.specs.declared.fault.NumberFault.{NumberFault}
 use Rattle.mps_tokens.specs.declared.fault.NumberFault.TheVariants.{Past}
 use Rattle.mps_tokens.specs.Numbers.{fitted}
-use Rattle.mps_tokens.proofs.Tens.{ten_pos, past_by_power}
+use Rattle.mps_tokens.proofs.Tens.{ten_pos}
 
 -- ---- what fits
 

@@ -1,6 +1,5 @@
 -- Powers of ten, and numbers that end in zeros.
 use Rattle.std.proofs.Common.{◌≡◌, ◌≢◌, ℕ, zero, suc, add-one, ◌+◌, ◌*◌, ◌/◌, ◌%◌, ◌^◌, ◌<◌, ◌≤◌, refl, sym, ap, ◌∙◌, subst, arith, lit<, lit≤}
-use Rattle.std.specs.Prelude.{if◌then◌else◌, ◌==◌}
 use Rattle.std.proofs.Math.Nat.{one-le-pow, pow-le-pow_right, pow-suc, le_trans, lt_of_lt_of_le, lt_of_le_of_lt, mul-le-mul_right, one-mul, mul-one, mul_assoc, add-zero, mul-mod_left, mul-div_cancel, le-mul_of_pos_right}
 use Rattle.std.proofs.lemmas.Nat.{mod-mul-add}
 use Rattle.std.proofs.lemmas.Bool.{ne_eqb, eq-eqb}

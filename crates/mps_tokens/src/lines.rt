@@ -49,7 +49,8 @@ fn line_at(text: &[u8], from: usize) -> Line
     }
 }
 
-/// The line at `from`.
+/// The line at `from`: it ends before its line feed or at the end of the text, and one carriage return at its end is left
+/// out. `next` is where the line after it begins, or the end of the text.
 pub fn next_line(text: &[u8], from: usize) -> Line
     requires { from < length text.now }
     ensures begin { result.begin ≡ from }

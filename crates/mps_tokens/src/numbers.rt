@@ -138,7 +138,9 @@ fn fraction_number(negative: bool, top: &[u8], bottom: &[u8]) -> Result<Frac, Nu
     fraction(negative, top, bottom)
 }
 
-/// The number that the bytes spell.
+/// The number that the bytes spell: a decimal, as `-2.50`, `.5` or `1e3` with e, E, d or D, or a fraction, as `6/4`. Bytes that
+/// spell none are `NotNumber`. `Past` are a decimal that isn't 0 and whose digits without the zeros at their end, or a part of
+/// whose lowest terms, are above 2^127 - 1, and a fraction with a numeral above it.
 pub fn number(bytes: &[u8]) -> Result<Frac, NumberFault>
     ensures { result ≡ number_of bytes.now }
 {

@@ -26,6 +26,7 @@ impl<'a> Model for Parts<'a> {
 }
 
 impl<'a> Parts<'a> {
+    /// The fields of a line.
     pub fn of(line: &'a [u8]) -> Self
         ensures { result ≡ take 6 (fields_of line.now) }
     {
@@ -35,12 +36,14 @@ impl<'a> Parts<'a> {
         }
     }
 
+    /// How many there are, at most six.
     pub fn len(&self) -> usize
         ensures { result ≡ length self.now }
     {
         self.fields.count
     }
 
+    /// The bytes of the k-th field.
     pub fn get(&self, k: usize) -> &'a [u8]
         requires { k < length self.now }
         ensures { slice_get self.now k ≡ Some result.now }

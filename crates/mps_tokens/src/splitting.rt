@@ -38,7 +38,7 @@ fn field_end(line: &[u8], begin: usize) -> usize
     end
 }
 
-/// The first six fields of the line.
+/// Where the first six fields of the line stand. Fields are what blanks and tabs leave; a line of more than six has count 6.
 pub fn fields(line: &[u8]) -> Fields
     ensures spans { map (span_of line.now) (take result.count result.spans) ≡ take 6 (fields_of line.now) }
     ensures within { AreWithin line.now result.spans result.count }

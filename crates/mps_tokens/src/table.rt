@@ -27,7 +27,7 @@ macro_rules! cases {
     };
 }
 
-/// The kinds of rows.
+/// The words of the kinds of rows, from 1.
 pub fn row_kinds() -> [Case; 4]
     ensures table { entries_of result ≡ row_kind_table }
     ensures distinct { IsTrue (has_distinct_words (entries_of result)) }
@@ -35,7 +35,7 @@ pub fn row_kinds() -> [Case; 4]
     cases! { 1 => b"N", 2 => b"L", 3 => b"G", 4 => b"E" }
 }
 
-/// The words that begin a section.
+/// The words that begin a section, from 1.
 pub fn sections() -> [Case; 11]
     ensures table { entries_of result ≡ section_table }
     ensures distinct { IsTrue (has_distinct_words (entries_of result)) }
@@ -55,7 +55,7 @@ pub fn sections() -> [Case; 11]
     }
 }
 
-/// The kinds of bounds.
+/// The words of the kinds of bounds, from 1.
 pub fn bound_kinds() -> [Case; 9]
     ensures table { entries_of result ≡ bound_kind_table }
     ensures distinct { IsTrue (has_distinct_words (entries_of result)) }
@@ -73,7 +73,7 @@ pub fn bound_kinds() -> [Case; 9]
     }
 }
 
-/// The words that begin a line of a certificate.
+/// The words that begin a line of a certificate, from 1.
 pub fn certificate_words() -> [Case; 17]
     ensures table { entries_of result ≡ certificate_table }
     ensures distinct { IsTrue (has_distinct_words (entries_of result)) }
