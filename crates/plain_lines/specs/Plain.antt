@@ -1,5 +1,5 @@
 -- Which texts are plain: a program of rows and columns with default bounds, and a certificate with one leaf.
-use Rattle.std.specs.Prelude.{◌≡◌, ℕ, suc, ◌+◌, ◌&&◌, not, nat_le, nat_lt, Bool, true, false, List, [], ◌∷◌, length, Option, Some, None, is_some, is_none, unwrap_or, codes, if◌then◌else◌}
+use Rattle.std.specs.Prelude.{◌≡◌, ℕ, suc, ◌+◌, ◌==◌, ◌&&◌, not, nat_le, nat_lt, Bool, true, false, List, [], ◌∷◌, length, Option, Some, None, is_some, is_none, unwrap_or, codes, if◌then◌else◌}
 use Rattle.std.specs.Option.{option_map}
 use Rattle.std.specs.Str.{bytes_eq}
 use Rattle.rational.specs.Rational.{ℚ}
@@ -102,8 +102,7 @@ is_finished Finished = true
 is_finished part = false
 
 abbrev pub is_empty : List ℕ → Bool
-is_empty [] = true
-is_empty (b ∷ bs) = false
+is_empty piece = length piece == 0
 
 -- What is told by the lines that come after the earlier ones, where each of them may stand, the last one is END, and nothing follows.
 abbrev pub read_on : List ℕ → ℕ → List (List ℕ) → List (List ℕ) → Option Told

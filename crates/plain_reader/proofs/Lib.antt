@@ -3,3 +3,4 @@ pub mod Lines
 pub mod RowSides
 pub mod Puts
 pub mod Compose
+pub mod Whole

@@ -5,8 +5,7 @@ ghost use Rattle.program_law.specs.Program.{marker};
 ghost use Rattle.plain_reader.specs.Started.{IsStarted};
 
 use crate::marks::{HEIGHT, clear_marks};
-use crate::stop::ReadStop;
-use frac_core::{Frac, Vector};
+use frac_core::{Frac, Memory, Vector};
 use plain_lines::Part;
 use program_model::{Name, Program};
 use std::alloc::Global;
@@ -31,7 +30,7 @@ pub(crate) struct Draft {
 
 impl Draft {
     /// What the line of the objective tells.
-    pub(crate) fn start(alloc: Global, objective: Name) -> Result<Draft, ReadStop>
+    pub(crate) fn start(alloc: Global, objective: Name) -> Result<Draft, Memory>
         requires { objective ≢ marker }
         ensures { IfOk result (λ draft. IsStarted objective draft) }
     {

@@ -1,7 +1,8 @@
 // Reading a text.
 
-ghost use Rattle.std.specs.Prelude.{◌≡◌, ◌<◌, ◌^◌, length, IfOk, List, ℕ};
-ghost use Rattle.plain_lines.specs.Plain.{is_finished, plain_of, told_in};
+ghost use Rattle.std.specs.Prelude.{◌≡◌, ◌<◌, ◌^◌, ◌&&◌, codes, length, IfOk, List, ℕ};
+ghost use Rattle.std.specs.Str.{bytes_eq};
+ghost use Rattle.plain_lines.specs.Plain.{is_empty, is_finished, plain_of, told_in};
 ghost use Rattle.plain_lines.specs.Fields.{objective_in};
 ghost use Rattle.plain_reader.specs.Reading.{Begins, Reads, ReadsLines};
 
@@ -22,7 +23,8 @@ fn begin(alloc: Global, line: &[u8]) -> Result<Draft, ReadStop>
         return Err(ReadStop::NotPlain);
     };
     let name = name_of(alloc, name)?;
-    Draft::start(alloc, name)
+    let draft = Draft::start(alloc, name)?;
+    Ok(draft)
 }
 
 fn is_done(part: Part) -> bool
@@ -39,6 +41,19 @@ fn is_done(part: Part) -> bool
     }
 }
 
+fn is_heading(line: &[u8]) -> bool
+    ensures { result ≡ bytes_eq line.now (codes "ROWS") }
+{
+    line == b"ROWS".as_slice()
+}
+
+/// Whether a text ends as it should, with so much behind its last line.
+fn is_end(rest: &[u8], part: Part) -> bool
+    ensures { result ≡ (is_empty rest.now && is_finished part) }
+{
+    rest.is_empty() && is_done(part)
+}
+
 /// What the lines of a text tell.
 fn read_lines(alloc: Global, text: &[u8]) -> Result<Draft, ReadStop>
     requires { length text.now < 2 ^ 63 }
@@ -47,7 +62,7 @@ fn read_lines(alloc: Global, text: &[u8]) -> Result<Draft, ReadStop>
     let Some((first, rest)) = split_line(text) else {
         return Err(ReadStop::NotPlain);
     };
-    if first != b"ROWS".as_slice() {
+    if !is_heading(first) {
         return Err(ReadStop::NotPlain);
     }
     let Some((second, mut rest)) = split_line(rest) else {
@@ -60,7 +75,7 @@ fn read_lines(alloc: Global, text: &[u8]) -> Result<Draft, ReadStop>
         at += line.len() + 1;
         rest = after;
     }
-    if rest.is_empty() && is_done(draft.part) {
+    if is_end(rest, draft.part) {
         Ok(draft)
     } else {
         Err(ReadStop::NotPlain)

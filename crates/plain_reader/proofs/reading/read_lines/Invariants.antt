@@ -4,10 +4,10 @@ use Rattle.plain_lines.specs.Plain.{read_on, told_in}
 use Rattle.plain_reader.specs.Drafts.{IsDraftOf}
 use Rattle.plain_reader.proofs.reading.read_lines.Given as goal
 
-abbrev pub invariant-loop-rest : goal.invariant-loop-rest
-invariant-loop-rest l =
-    (l.at + length l.rest.now ≤ length l.fn.text)
-    × ((objective : List ℕ) × (earlier : List (List ℕ)) × IsDraftOf objective earlier l.draft × (read_on objective l.at earlier (pieces_of l.rest.now) ≡ told_in l.fn.text))
+abbrev pub invariant-loop-line : goal.invariant-loop-line
+invariant-loop-line l =
+    (l.at + length l.rest ≤ length l.fn.text)
+    × ((objective : List ℕ) × (earlier : List (List ℕ)) × IsDraftOf objective earlier l.draft × (read_on objective l.at earlier (pieces_of l.rest) ≡ told_in l.fn.text))
 
-abbrev pub decreases-loop-rest : goal.decreases-loop-rest
-decreases-loop-rest l = length l.rest.now
+abbrev pub decreases-loop-line : goal.decreases-loop-line
+decreases-loop-line l = length l.rest
