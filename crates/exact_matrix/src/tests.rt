@@ -27,7 +27,10 @@ fn matrix(
     for i in 0..m.rows() {
         for j in 0..m.columns() {
             if let Some(x) = next.next() {
-                m.set(i, j, Frac::of_parts(*x, 1)?);
+                let value = Frac::of_parts(*x, 1)?;
+                if i < m.rows() && j < m.columns() {
+                    m.set(i, j, value);
+                }
             }
         }
     }
