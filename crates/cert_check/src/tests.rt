@@ -164,7 +164,7 @@ fn program(alloc: Global, rows: &[Row], columns: &[Column]) -> Result<Program, F
     let mut p = Program::start(alloc, objective)?;
     for i in 0..rows.len() {
         let name = name(alloc, b'r', i as u32)?;
-        if is_marker(name.bytes()) || !is_row(rows[i]) {
+        if is_marker(name.bytes()) || !is_row(&rows[i]) {
             return Err(Fail::new("no row"));
         }
         p.add_row(name, rows[i])?;
