@@ -74,15 +74,18 @@ bounds : plain_of (rows ++ columns ++ sides ++ codes "BOUNDS\nINFEASIBLE\nFARKAS
 bounds = refl
 
 -- a constant, an entry of 0 given, a column begun by a cost, and no right sides
-constant : plain_of (codes "ROWS\n N obj\n E r\nCOLUMNS\n x obj -0\n y r 07\n x r 3\nRHS\n s obj 5\nENDATA\nINFEASIBLE\nFARKAS\nEND\n") ≡ Some (record {
-      objective = codes "obj";
-      rows = (codes "r", record { low = Some zero_ℚ; high = Some zero_ℚ }) ∷ [];
-      columns = (codes "x", plain_column) ∷ (codes "y", plain_column) ∷ [];
-      entries = (whole (pos 3) ∷ whole (pos 7) ∷ []) ∷ [];
-      costs = zero_ℚ ∷ zero_ℚ ∷ [];
-      constant = neg_ℚ (whole (pos 5));
-      pairs = (zero_ℚ ∷ zero_ℚ ∷ []) ∷ (zero_ℚ ∷ zero_ℚ ∷ []) ∷ [];
-    }, zero_ℚ ∷ [])
+constant : plain_of (codes "ROWS\n N obj\n E r\nCOLUMNS\n x obj -0\n y r 07\n x r 3\nRHS\n s obj 5\nENDATA\nINFEASIBLE\nFARKAS\nEND\n") ≡ Some (
+  record {
+    objective = codes "obj";
+    rows = (codes "r", record { low = Some zero_ℚ; high = Some zero_ℚ }) ∷ [];
+    columns = (codes "x", plain_column) ∷ (codes "y", plain_column) ∷ [];
+    entries = (whole (pos 3) ∷ whole (pos 7) ∷ []) ∷ [];
+    costs = zero_ℚ ∷ zero_ℚ ∷ [];
+    constant = neg_ℚ (whole (pos 5));
+    pairs = (zero_ℚ ∷ zero_ℚ ∷ []) ∷ (zero_ℚ ∷ zero_ℚ ∷ []) ∷ [];
+  },
+  zero_ℚ ∷ [],
+)
 constant = refl
 
 given_twice : plain_of (rows ++ codes "COLUMNS\n x r1 1 r1 2\nENDATA\nINFEASIBLE\nFARKAS\nEND\n") ≡ None

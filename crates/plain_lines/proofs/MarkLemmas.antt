@@ -26,9 +26,9 @@ has-set marks j i k l a b lt = elim (cases_Bool (eqb j k && eqb i l)) [
       rw (e, at) (get_or-set_same marks (129 * k + l) true false lt)
   | inr e ↦
       let apart : 129 * j + i ≡ 129 * k + l → ⊥ = λ h.
-          let p = place_apart j k i l a b h in
-          let both : (eqb j k && eqb i l) ≡ true = rw (eq-eqb j k p.0, eq-eqb i l p.1) refl in
-          true≢false (sym both ∙ e) in
+      let p = place_apart j k i l a b h in
+      let both : (eqb j k && eqb i l) ≡ true = rw (eq-eqb j k p.0, eq-eqb i l p.1) refl in
+      true≢false (sym both ∙ e) in
       rw e (get_or-set_other marks (129 * k + l) (129 * j + i) true false apart)
 ]
 

@@ -216,8 +216,7 @@ pub header_line : (objective : List ℕ) (at : ℕ) (earlier : List (List ℕ)) 
 header_line objective at earlier line old new next (Ok u) of e t =
     let told = told_by objective earlier in
     let P : Draft → Type 0 = λ d. IsDraftOf objective (line ∷ earlier) d in
-    let T : Told → Type 0 = λ all. Holds all (record old { part = next }) in
-    (
+    let T : Told → Type 0 = λ all. Holds all (record old { part = next }) in (
       ap (λ o. line_stands told (part_after earlier) o at line) e ∙ ap (λ part. may_follow part next && is_in_reach next (at + length line)) (sym of.part) ∙ t.0,
       subst P (sym t.1) (record {
         part = rw e refl;
@@ -232,8 +231,7 @@ pub data_line : (objective : List ℕ) (at : ℕ) (earlier : List (List ℕ)) (l
     → OnOk r (new.part ≡ old.part) → TakesData (told_by objective earlier) part line new r → TakesLine objective at earlier line new r
 data_line objective at earlier line old new part (Ok u) of e p kept t =
     let here : part_after earlier ≡ part = sym of.part ∙ p in
-    let T : Told → Type 0 = λ all. Holds all new in
-    (
+    let T : Told → Type 0 = λ all. Holds all new in (
       rw (e, here) t.0,
       record {
         part = kept ∙ of.part ∙ rw e refl;
