@@ -1,5 +1,5 @@
 -- A line of entries, from its column or set and its pairs.
-use Rattle.std.proofs.Common.{◌≡◌, ℕ, zero, suc, ◌+◌, ◌*◌, ◌<◌, Bool, true, false, List, [], ◌∷◌, length, set, Option, Some, None, Result, Ok, Err, refl, sym, ap, subst, ◌∙◌, arith}
+use Rattle.std.proofs.Common.{◌≡◌, ℕ, zero, suc, Bool, true, List, [], ◌∷◌, length, set, Option, Some, Result, Ok, Err, sym, ap, ◌∙◌}
 use Rattle.std.specs.Global.{Vec}
 use Rattle.std.proofs.lemmas.List.{length-set}
 use Rattle.rational.specs.Rational.{ℚ}
@@ -16,7 +16,7 @@ use Rattle.plain_reader.specs.declared.stop.ReadStop.TheVariants as stops
 use Rattle.plain_reader.specs.Drafts.{Holds, text_in}
 use Rattle.plain_reader.specs.Steps.{PlacesColumn, PutsEntry, TakesSet, first_name, PutsSide, TakesData}
 use Rattle.plain_reader.proofs.Held.{Holds-set}
-use Rattle.plain_reader.proofs.Lines.{HasColumn, column_step, column_stop, bad_column, one_entry, bad_entry, two_entries, bad_set, one_side, bad_side, two_sides}
+use Rattle.plain_reader.proofs.Lines.{column_step, column_stop, bad_column, one_entry, bad_entry, two_entries, bad_set, one_side, bad_side, two_sides}
 
 pub number_columns : (p q : Program) (i j : ℕ) (v : ℚ) → q ≡ with_number p i j v → length q.columns ≡ length p.columns
 number_columns p q zero j v e = ap (λ (r : Program). length r.columns) e

@@ -1,34 +1,28 @@
 -- A draft that holds what is told, and what each change of it holds.
-use Rattle.std.proofs.Common.{◌≡◌, ℕ, zero, suc, ◌+◌, ◌*◌, ◌<◌, ◌≤◌, Bool, true, false, cond, ◌&&◌, ◌||◌, List, [], ◌∷◌, ◌++◌, map, length, get_or, set, replicate, Option, Some, None, refl, sym, ap, subst, ◌∙◌, inl, inr, arith}
-use Rattle.std.specs.Prelude.{is_some, is_none, nat_lt, unwrap_or, slice_get}
-use Rattle.std.specs.Option.{option_to_list}
-use Rattle.std.specs.Str.{bytes_eq}
+use Rattle.std.proofs.Common.{◌≡◌, ℕ, zero, suc, ◌+◌, ◌*◌, ◌<◌, ◌≤◌, Bool, true, List, [], ◌∷◌, ◌++◌, length, set, Option, Some, None, refl, sym, ap, ◌∙◌, arith}
+use Rattle.std.specs.Prelude.{slice_get}
 use Rattle.std.specs.Global.{Vec}
-use Rattle.std.proofs.lemmas.Bool.{ltb-true}
-use Rattle.std.proofs.lemmas.List.{length-append, length-map, length-set}
+use Rattle.std.proofs.lemmas.List.{length-append, length-set}
 use Rattle.rational.specs.Rational.{ℚ, zero_ℚ, neg_ℚ}
-use Rattle.program_law.specs.declared.Row as row
 use Rattle.program_law.specs.Places.{place_of}
 use Rattle.program_law.specs.Program.{Program, row_names, column_names, sides}
 use Rattle.program_law.specs.Changes.{with_row, with_column, with_constant, renewed}
 use Rattle.program_law.specs.Changes as changes
 use Rattle.plain_lines.specs.declared.words.RowKind.{RowKind}
 use Rattle.plain_lines.specs.declared.words.Part.{Part}
-use Rattle.plain_lines.specs.Spelling.{number_of, multiplier_of}
 use Rattle.plain_lines.specs.Words.{sides_of}
 use Rattle.plain_lines.specs.Fields.{Two}
-use Rattle.plain_lines.specs.Told.{Told, Telling, is_at, is_told, all_names, names_in, row_of, column_of, plain_column, program_of, multipliers_of, with_pairs}
-use Rattle.plain_lines.specs.Plain.{all_hold, pair_stands, next_row}
-use Rattle.plain_lines.specs.Marks.{Differ, has, AreMarksOf}
+use Rattle.plain_lines.specs.Told.{Told, Telling, is_told, all_names, names_in, plain_column, program_of}
+use Rattle.plain_lines.specs.Plain.{pair_stands, next_row}
+use Rattle.plain_lines.specs.Marks.{AreMarksOf}
 use Rattle.plain_lines.specs.Numbers.{with_number, moved}
-use Rattle.plain_lines.proofs.PlaceLemmas.{place_below}
 use Rattle.plain_lines.proofs.NameLemmas.{absent_differs, absent_front, Differ-push}
 use Rattle.plain_lines.proofs.MarkLemmas.{marks-told, marks-column, marks-none}
 use Rattle.plain_lines.proofs.Programs.{names_are, columns_are, program-entry, program-constant, program-side, multiplier-told, program-column, program-row, multipliers-row, names-row}
 use Rattle.plain_reader.specs.declared.draft.Draft.{Draft}
 use Rattle.plain_reader.specs.declared.marks.Target.{Target}
 use Rattle.plain_reader.specs.declared.marks.Target.TheVariants.{Objective, Row}
-use Rattle.plain_reader.specs.Drafts.{Holds, IsRoomy, text_in}
+use Rattle.plain_reader.specs.Drafts.{Holds, text_in}
 use Rattle.plain_reader.specs.Steps.{with_row_in, has_at, place_in, SetsSide, IsEarly, names_of_rows}
 
 -- ---- names of the program

@@ -1,9 +1,8 @@
 -- What a line does, by what is told.
-use Rattle.std.proofs.Common.{◌≡◌, ℕ, zero, suc, ◌+◌, ◌*◌, ◌<◌, ◌≤◌, Bool, true, false, cond, ◌&&◌, List, [], ◌∷◌, ◌++◌, length, get_or, set, Option, Some, None, Result, Ok, Err, refl, sym, ap, subst, ◌∙◌, inl, inr, arith}
-use Rattle.std.specs.Prelude.{is_some, is_none, nat_lt, OnOk, unwrap_or}
+use Rattle.std.proofs.Common.{◌≡◌, ℕ, ◌+◌, ◌<◌, Bool, true, false, cond, ◌&&◌, List, [], ◌∷◌, ◌++◌, length, Option, Some, None, Result, Ok, Err, refl, sym, ap, subst, ◌∙◌, arith}
+use Rattle.std.specs.Prelude.{is_none, nat_lt, OnOk, unwrap_or}
 use Rattle.std.specs.Option.{option_to_list}
 use Rattle.std.proofs.lemmas.Bool.{ltb-true}
-use Rattle.std.proofs.lemmas.List.{length-map}
 use Rattle.rational.specs.Rational.{ℚ, zero_ℚ}
 use Rattle.program_law.specs.Places.{place_of}
 use Rattle.program_law.specs.Program.{Program, row_names, column_names}
@@ -11,20 +10,19 @@ use Rattle.plain_lines.specs.declared.words.RowKind.{RowKind}
 use Rattle.plain_lines.specs.declared.words.Part.{Part}
 use Rattle.plain_lines.specs.declared.words.Part.TheVariants.{Rows, Columns, Sides, Ended, Claimed, Multipliers, Finished}
 use Rattle.plain_lines.specs.Words.{part_named, may_follow}
-use Rattle.plain_lines.specs.Spelling.{is_name, number_of, multiplier_of}
+use Rattle.plain_lines.specs.Spelling.{is_name, multiplier_of}
 use Rattle.plain_lines.specs.Fields.{Two, Entries, is_row_name, row_in, entries_in, multiplier_in}
 use Rattle.program_law.specs.Changes.{with_column}
 use Rattle.program_law.specs.declared.Column.{Column}
-use Rattle.plain_lines.specs.Told.{Told, Telling, is_told, all_names, names_in, plain_column, with_multiplier, with_new, with_pairs, with_entries, with_sides, with_head, first_set, part_after, told_by}
-use Rattle.plain_lines.specs.Plain.{all_hold, row_stands, column_stands, pair_stands, pairs_stand, set_stands, entries_stand, sides_stand, next_row, multiplier_stands, data_stands, is_in_reach, line_stands, may_stand}
-use Rattle.plain_lines.proofs.PlaceLemmas.{place_pushed}
+use Rattle.plain_lines.specs.Told.{Told, is_told, all_names, names_in, plain_column, with_multiplier, with_new, with_pairs, with_entries, with_sides, with_head, first_set, part_after, told_by}
+use Rattle.plain_lines.specs.Plain.{all_hold, row_stands, column_stands, pair_stands, set_stands, next_row, multiplier_stands, data_stands, is_in_reach, line_stands}
 use Rattle.plain_lines.proofs.Programs.{map-push}
 use Rattle.plain_reader.specs.declared.draft.Draft.{Draft}
 use Rattle.plain_reader.specs.declared.stop.ReadStop.{ReadStop}
 use Rattle.plain_reader.specs.declared.stop.ReadStop.TheVariants as stops
-use Rattle.plain_reader.specs.Drafts.{Holds, IsDraftOf, text_in}
-use Rattle.plain_reader.specs.Steps.{TakesHeader, PutsRow, with_row_in, PlacesColumn, with_new_column, PutsEntry, TakesSet, first_name, PutsSide, TakesMultiplier, names_of_rows, TakesData, told_more, IsEarly, TakesLine}
-use Rattle.plain_reader.proofs.Held.{names_length, names_held, rows_held, columns_held, Holds-part, Holds-row, Holds-column, Holds-set, Holds-multiplier}
+use Rattle.plain_reader.specs.Drafts.{Holds, IsDraftOf}
+use Rattle.plain_reader.specs.Steps.{TakesHeader, PutsRow, PlacesColumn, with_new_column, PutsEntry, first_name, PutsSide, TakesMultiplier, names_of_rows, TakesData, told_more, IsEarly, TakesLine}
+use Rattle.plain_reader.proofs.Held.{names_length, names_held, rows_held, columns_held, Holds-part, Holds-row, Holds-column, Holds-multiplier}
 
 all_three : (a b c : Bool) → all_hold (a ∷ b ∷ c ∷ []) ≡ true → (a ≡ true) × (b ≡ true) × (c ≡ true)
 all_three true true true e = (refl, refl, refl)

@@ -1,10 +1,9 @@
 -- The sides of a plain row are sides that a row may have.
-use Rattle.std.proofs.Common.{◌≡◌, ℕ, suc, true, List, [], Option, Some, None, refl, sym, ap, subst, ◌∙◌, inl, inr, arith}
+use Rattle.std.proofs.Common.{◌≡◌, Option, Some, None, refl, inl, inr}
 use Rattle.std.specs.Prelude.{IsTrue, IsSome}
 use Rattle.std.specs.Option.{option_map}
-use Rattle.rational.specs.Rational.{ℚ, zero_ℚ, neg_ℚ, whole, ratio, same_ℚ, ◌-ℚ◌, fits}
+use Rattle.rational.specs.Rational.{ℚ, zero_ℚ, neg_ℚ, whole, ratio, same_ℚ, fits}
 use Rattle.rational.specs.Divisors.{gcd_of}
-use Rattle.rational.specs.Order.{◌≤ℚ◌}
 use Rattle.rational.proofs.Order.{le_refl}
 use Rattle.rational.proofs.Field.{+ℚ_neg}
 use Rattle.frac_core.specs.Parts.{max_part}

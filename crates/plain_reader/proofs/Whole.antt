@@ -1,23 +1,22 @@
 -- Reading from the first line to the last.
-use Rattle.std.proofs.Common.{◌≡◌, ℕ, zero, suc, ◌+◌, ◌*◌, ◌<◌, ◌≤◌, Bool, true, false, cond, ◌&&◌, List, [], ◌∷◌, length, get_or, replicate, Option, Some, None, Result, Ok, Err, codes, refl, sym, ap, subst, ◌∙◌, arith, lit<}
+use Rattle.std.proofs.Common.{◌≡◌, ℕ, zero, suc, ◌+◌, ◌*◌, Bool, true, false, cond, ◌&&◌, List, [], ◌∷◌, length, get_or, replicate, Option, Some, None, Result, Ok, Err, codes, refl, sym, ap, ◌∙◌, arith}
 use Rattle.std.specs.Str.{bytes_eq}
 use Rattle.std.proofs.lemmas.List.{length-replicate}
-use Rattle.rational.specs.Rational.{ℚ, zero_ℚ}
+use Rattle.rational.specs.Rational.{ℚ}
 use Rattle.program_law.specs.Program.{Program, marker}
 use Rattle.std.specs.Option.{option_map}
 use Rattle.std.specs.Prelude.{IfOk}
 use Rattle.program_law.specs.Changes.{empty_program}
-use Rattle.plain_lines.specs.declared.words.Part.{Part}
 use Rattle.plain_lines.specs.Lines.{pieces_of, fields_of}
 use Rattle.plain_lines.specs.Fields.{Two, is_row_name, two_in, objective_of, objective_in}
 use Rattle.plain_lines.specs.Told.{Told, part_after, told_by, program_of, multipliers_of}
-use Rattle.plain_lines.specs.Plain.{may_stand, is_finished, is_empty, read_on, read_after, read_pieces, told_in, plain_of}
+use Rattle.plain_lines.specs.Plain.{may_stand, is_finished, is_empty, read_on, read_after, told_in, plain_of}
 use Rattle.plain_lines.proofs.Pieces.{split_has_first}
 use Rattle.plain_reader.specs.declared.draft.Draft.{Draft}
 use Rattle.plain_reader.specs.declared.stop.ReadStop.{ReadStop}
 use Rattle.plain_reader.specs.declared.stop.ReadStop.TheVariants as stops
 use Rattle.plain_reader.specs.Started.{AreClear, IsStarted}
-use Rattle.plain_reader.specs.Drafts.{Holds, IsDraftOf, text_in, IsRoomy}
+use Rattle.plain_reader.specs.Drafts.{IsDraftOf, text_in}
 use Rattle.plain_reader.specs.Steps.{TakesLine}
 use Rattle.plain_reader.specs.Reading.{Begins, Reads, ReadsLines}
 use Rattle.plain_reader.proofs.RowSides.{neg_zero}

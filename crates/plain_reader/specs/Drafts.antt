@@ -1,9 +1,9 @@
 -- What a draft holds of what is told.
-use Rattle.std.specs.Prelude.{◌≡◌, ℕ, ◌≤◌, Bool, false, List, [], ◌∷◌, length, Option, None}
+use Rattle.std.specs.Prelude.{◌≡◌, ℕ, ◌≤◌, false, List, [], ◌∷◌, length, Option, None}
 use Rattle.std.specs.Option.{option_map}
 use Rattle.std.specs.Global.{Vec}
 use Rattle.program_law.specs.Places.{place_of}
-use Rattle.plain_lines.specs.Told.{Told, Telling, all_names, names_in, is_told, part_after, told_by, program_of, multipliers_of}
+use Rattle.plain_lines.specs.Told.{Told, all_names, names_in, is_told, part_after, told_by, program_of, multipliers_of}
 use Rattle.plain_lines.specs.Plain.{next_row}
 use Rattle.plain_lines.specs.Marks.{Differ, AreMarksOf}
 use Rattle.plain_reader.specs.declared.draft.Draft.{Draft}

@@ -13,8 +13,8 @@ use Rattle.plain_lines.specs.declared.words.Part.TheVariants.{Rows, Columns, Sid
 use Rattle.plain_lines.specs.declared.words.RowKind.{RowKind}
 use Rattle.plain_lines.specs.Spelling.{number_of, multiplier_of}
 use Rattle.plain_lines.specs.Words.{sides_of, may_follow}
-use Rattle.plain_lines.specs.Fields.{Two, Entries, row_in, entries_in, multiplier_in}
-use Rattle.plain_lines.specs.Told.{Told, Telling, is_told, all_names, names_in, with_head, with_new, with_entries, with_pairs, with_sides, with_multiplier, first_set, plain_column}
+use Rattle.plain_lines.specs.Fields.{Two, row_in, entries_in, multiplier_in}
+use Rattle.plain_lines.specs.Told.{Told, is_told, all_names, with_head, with_entries, with_pairs, with_sides, with_multiplier, first_set, plain_column}
 use Rattle.plain_lines.specs.Plain.{row_stands, column_stands, pair_stands, set_stands, multiplier_stands, data_stands, is_in_reach, may_stand}
 use Rattle.plain_lines.specs.Marks.{has}
 use Rattle.plain_reader.specs.declared.draft.Draft.{Draft}

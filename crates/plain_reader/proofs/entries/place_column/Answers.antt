@@ -1,4 +1,4 @@
-use Rattle.std.proofs.Common.{sym, ◌∙◌}
+use Rattle.std.proofs.Common.{sym}
 use Rattle.plain_reader.proofs.Puts.{new_column}
 use Rattle.plain_reader.proofs.entries.place_column.Goals as goal
 

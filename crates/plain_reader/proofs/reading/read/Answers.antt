@@ -1,4 +1,3 @@
-use Rattle.std.proofs.Common.{sym, ap, ◌∙◌, length}
 use Rattle.std.proofs.lemmas.Result.{err_from_is_err_and}
 use Rattle.plain_reader.proofs.Whole.{whole_text, whole_stops}
 use Rattle.plain_reader.proofs.reading.read.Goals as goal

@@ -13,8 +13,7 @@ loop-line-init c = (
 pub loop-line-preserved : goal.loop-line-preserved
 loop-line-preserved c =
     let w = c.loop-line.invariant.1 in
-    let t = c.in_ok-take_line.ensures w.0 w.1 w.2 in
-    (
+    let t = c.in_ok-take_line.ensures w.0 w.1 w.2 in (
       omega (arith, c.loop-line.invariant.0, c.in-Some-split_line-2.ensures.length),
       (w.0, _, t.1, goes_on w.0 c.loop-line.at _ w.1 c.in-Some-split_line-2.line.now c.loop-line.rest.now c.in-Some-split_line-2.after.now _ c.in-Some-split_line-2.ensures.pieces t.0 (omega arith) w.3),
     )
@@ -40,13 +39,17 @@ returns-in_err-take_line c =
     rw (p.1, p.2) (line_stops w.0 c.loop-line.at w.1 c.in-Some-split_line-2.line.now c.loop-line.rest.now c.in-Some-split_line-2.after.now (told_in c.args.text.now) c.take_line.new.draft c.in_err-take_line.field-0.0 c.in-Some-split_line-2.ensures.pieces w.3 (c.in_err-take_line.ensures w.0 w.1 w.2))
 
 pub returns-then-not-is_heading : goal.returns-then-not-is_heading
-returns-then-not-is_heading c = ?
-
-pub returns-then-is_end : goal.returns-then-is_end
-returns-then-is_end c = ?
-
-pub returns-else-is_end : goal.returns-else-is_end
-returns-else-is_end c = ?
+returns-then-not-is_heading c = no_header c.args.text.now c.in-Some.first.now c.in-Some.rest.now c.in-Some.ensures.pieces (sym c.if-not-is_heading.ensures)
 
 pub returns-in_default-split_line : goal.returns-in_default-split_line
-returns-in_default-split_line c = ?
+returns-in_default-split_line c = no_second c.args.text.now c.in-Some.first.now c.in-Some.rest.now c.in-Some.ensures.pieces c.in_default-split_line.ensures.whole (sym c.if-not-is_heading.ensures)
+
+pub returns-then-is_end : goal.returns-then-is_end
+returns-then-is_end c =
+    let w = c.loop-line.invariant.1 in
+    ends w.0 c.loop-line.at w.1 c.loop-line.rest.now _ c.loop-line.draft c.in_default-split_line-2.ensures.whole w.2 w.3 (sym c.if-is_end.ensures)
+
+pub returns-else-is_end : goal.returns-else-is_end
+returns-else-is_end c =
+    let w = c.loop-line.invariant.1 in
+    ends_early w.0 c.loop-line.at w.1 c.loop-line.rest.now _ c.loop-line.draft c.in_default-split_line-2.ensures.whole w.2 w.3 (sym c.if-is_end.ensures)
