@@ -1,6 +1,6 @@
 -- Texts that are plain, with what they tell, and texts that aren't.
-use Rattle.std.proofs.Common.{◌≡◌, ℕ, suc, false, List, [], ◌∷◌, ◌++◌, Option, Some, None, refl, codes}
-use Rattle.std.specs.Prelude.{pos, negsuc, neg_ℤ}
+use Rattle.std.proofs.Common.{◌≡◌, ℕ, false, List, [], ◌∷◌, ◌++◌, Some, None, refl, codes}
+use Rattle.std.specs.Prelude.{pos, negsuc}
 use Rattle.rational.specs.Rational.{ℚ, whole, zero_ℚ, neg_ℚ}
 use Rattle.program_law.specs.Program.{Program}
 use Rattle.plain_lines.specs.Told.{plain_column}

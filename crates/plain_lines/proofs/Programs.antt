@@ -1,24 +1,22 @@
 -- What one telling more makes of the program that is told.
-use Rattle.std.proofs.Common.{◌≡◌, ℕ, zero, suc, ◌+◌, ◌<◌, Bool, true, false, cond, ◌&&◌, List, [], ◌∷◌, ◌++◌, map, length, get_or, set, replicate, Option, Some, None, refl, sym, ap, ◌∙◌, arith}
+use Rattle.std.proofs.Common.{◌≡◌, ℕ, zero, suc, ◌+◌, true, false, List, [], ◌∷◌, ◌++◌, map, length, set, Some, None, refl, sym, ap, ◌∙◌, arith}
 use Rattle.std.specs.Prelude.{slice_get}
 use Rattle.std.specs.Str.{bytes_eq}
-use Rattle.std.specs.Option.{option_map}
 use Rattle.std.proofs.lemmas.Bool.{and_right}
 use Rattle.std.proofs.lemmas.List.{map-id, length-append}
 use Rattle.rational.specs.Rational.{ℚ, zero_ℚ, neg_ℚ}
 use Rattle.program_law.specs.declared.Row.{Row}
 use Rattle.program_law.specs.declared.Column.{Column}
 use Rattle.program_law.specs.Places.{place_of}
-use Rattle.program_law.specs.Vectors.{row_at}
-use Rattle.program_law.specs.Program.{Program, row_names, column_names, sides}
-use Rattle.program_law.specs.Changes.{zeros, widened, with_row, with_column, with_place, with_entry, with_cost, with_constant, with_sides, renewed}
+use Rattle.program_law.specs.Program.{Program, sides}
+use Rattle.program_law.specs.Changes.{zeros, widened, with_row, with_column, with_constant, with_sides}
 use Rattle.plain_lines.specs.declared.words.RowKind.{RowKind}
 use Rattle.plain_lines.specs.declared.words.RowKind.TheVariants.{AtMost, AtLeast, Equal}
 use Rattle.plain_lines.specs.Words.{sides_of}
-use Rattle.plain_lines.specs.Told.{Telling, Told, is_at, is_told, value_told, names_in, all_names, row_of, column_of, plain_column, numbers_of, program_of, multipliers_of}
+use Rattle.plain_lines.specs.Told.{Telling, Told, is_told, value_told, names_in, all_names, row_of, column_of, plain_column, numbers_of, program_of, multipliers_of}
 use Rattle.plain_lines.specs.Marks.{Differ}
 use Rattle.plain_lines.specs.Numbers.{with_number, moved}
-use Rattle.plain_lines.proofs.NameLemmas.{eq_self, eq_sym, ne_sym, absent_parts, place_behind, place_first}
+use Rattle.plain_lines.proofs.NameLemmas.{eq_self, eq_sym, ne_sym, place_behind, place_first}
 use Rattle.plain_lines.proofs.Tables.{unchanged, changed_at, renewed_at}
 use Rattle.plain_lines.proofs.MarkLemmas.{value_nowhere}
 

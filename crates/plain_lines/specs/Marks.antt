@@ -1,5 +1,5 @@
 -- What a reader keeps of names and of what is told.
-use Rattle.std.specs.Prelude.{◌≡◌, ℕ, ◌+◌, ◌*◌, ◌≤◌, Bool, false, List, [], ◌∷◌, length, Option, Some, None, slice_index_or, ⊤}
+use Rattle.std.specs.Prelude.{◌≡◌, ℕ, ◌+◌, ◌*◌, ◌≤◌, Bool, false, List, [], ◌∷◌, length, Some, None, slice_index_or, ⊤}
 use Rattle.program_law.specs.Places.{place_of}
 use Rattle.plain_lines.specs.Told.{Telling, is_told}
 

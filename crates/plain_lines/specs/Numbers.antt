@@ -1,7 +1,7 @@
 -- The changes of a program that one number makes, by the place of its row among the objective and the rows.
 use Rattle.std.specs.Prelude.{ℕ, zero, suc}
 use Rattle.std.specs.Option.{option_map}
-use Rattle.rational.specs.Rational.{ℚ, neg_ℚ}
+use Rattle.rational.specs.Rational.{ℚ}
 use Rattle.program_law.specs.declared.Row.{Row}
 use Rattle.program_law.specs.Program.{Program}
 use Rattle.program_law.specs.Changes.{with_entry, with_cost}

@@ -10,7 +10,7 @@ use Rattle.program_law.specs.Changes.{zeros}
 use Rattle.program_law.specs.declared.Row.{Row}
 use Rattle.program_law.specs.declared.Column.{Column}
 use Rattle.plain_lines.specs.declared.words.Part.{Part}
-use Rattle.plain_lines.specs.declared.words.Part.TheVariants.{Rows, Columns, Sides, Ended, Claimed, Multipliers, Finished}
+use Rattle.plain_lines.specs.declared.words.Part.TheVariants.{Rows, Columns, Sides, Multipliers}
 use Rattle.plain_lines.specs.declared.words.RowKind.{RowKind}
 use Rattle.plain_lines.specs.Spelling.{number_of, multiplier_of}
 use Rattle.plain_lines.specs.Words.{part_named, same_part, sides_of}

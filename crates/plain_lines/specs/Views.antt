@@ -1,5 +1,5 @@
 -- Pairs and entries as they are read.
-use Rattle.std.specs.Prelude.{ℕ, List, [], ◌∷◌, Option, Some, None}
+use Rattle.std.specs.Prelude.{List, [], ◌∷◌, Option, Some, None}
 use Rattle.plain_lines.specs.declared.fields.Pair.{Pair}
 use Rattle.plain_lines.specs.declared.fields.Pairs.{Pairs}
 use Rattle.plain_lines.specs.declared.fields.Entries as entries

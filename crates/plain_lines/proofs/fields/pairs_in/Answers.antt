@@ -1,4 +1,4 @@
-use Rattle.std.proofs.Common.{◌∙◌, ap, refl}
+use Rattle.std.proofs.Common.{refl}
 use Rattle.plain_lines.proofs.Pieces.{two_pairs}
 use Rattle.plain_lines.proofs.fields.pairs_in.Goals as goal
 

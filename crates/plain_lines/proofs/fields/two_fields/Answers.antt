@@ -1,5 +1,3 @@
-use Rattle.std.proofs.Common.{◌∙◌, ap, ◌∷◌}
-use Rattle.plain_lines.specs.Fields.{two_of}
 use Rattle.plain_lines.proofs.Pieces.{more_than_two}
 use Rattle.plain_lines.proofs.fields.two_fields.Goals as goal
 

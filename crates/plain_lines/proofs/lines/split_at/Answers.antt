@@ -1,4 +1,4 @@
-use Rattle.std.proofs.Common.{sym, ◌∙◌}
+use Rattle.std.proofs.Common.{sym}
 use Rattle.plain_lines.proofs.Pieces.{split_first, split_none}
 use Rattle.plain_lines.proofs.lines.split_at.Goals as goal
 
