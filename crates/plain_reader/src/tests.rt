@@ -29,62 +29,20 @@ fn is_refused(rt: &HostRuntime, text: &str) -> bool {
 }
 
 #[test]
-fn refuses_what_is_not_plain(rt: HostRuntime) -> Result<(), Fail> {
-    assert!(rt; is_refused(&rt, ""));
-    assert!(rt; is_refused(&rt, "ROWS\n N obj"));
-    assert!(rt;
-        is_refused(
-            &rt,
-            "ROWS\n N 'MARKER'\nCOLUMNS\nENDATA\nINFEASIBLE\nFARKAS\nEND\n"
-        )
-    );
-    assert!(rt;
-        is_refused(
-            &rt,
-            "ROWS\n N obj\n N r\nCOLUMNS\nENDATA\nINFEASIBLE\nFARKAS\nEND\n"
-        )
-    );
-    assert!(rt;
-        is_refused(
-            &rt,
-            "ROWS\n N obj\n L obj\nCOLUMNS\nENDATA\nINFEASIBLE\nFARKAS\nEND\n"
-        )
-    );
-    assert!(rt;
-        is_refused(
-            &rt,
-            "ROWS\n N obj\nCOLUMNS\n x r 1\nENDATA\nINFEASIBLE\nFARKAS\nEND\n"
-        )
-    );
-    assert!(rt;
-        is_refused(
-            &rt,
-            "ROWS\n N obj\nCOLUMNS\n x obj 1 obj 2\nENDATA\nINFEASIBLE\nFARKAS\nEND\n"
-        )
-    );
-    assert!(rt;
-        is_refused(
-            &rt,
-            "ROWS\n N obj\nCOLUMNS\n x  obj 1\nENDATA\nINFEASIBLE\nFARKAS\nEND\n"
-        )
-    );
-    assert!(rt;
-        is_refused(
-            &rt,
-            "ROWS\n N obj\n E r\nCOLUMNS\nRHS\n a r 1\n b obj 1\nENDATA\nINFEASIBLE\nFARKAS\nEND\n"
-        )
-    );
-    assert!(rt;
-        is_refused(
-            &rt,
-            "ROWS\n N obj\n E r\nCOLUMNS\nENDATA\nINFEASIBLE\nFARKAS\nY r 0\nEND\n"
-        )
-    );
-    assert!(rt;
-        is_refused(
-            &rt,
-            "ROWS\n N obj\n E r\nCOLUMNS\nENDATA\nINFEASIBLE\nFARKAS\nEND\n\n"
-        )
-    );
-    Ok(())
+fn refuses_what_is_not_plain(rt: HostRuntime) {
+    for text in [
+        "",
+        "ROWS\n N obj",
+        "ROWS\n N 'MARKER'\nCOLUMNS\nENDATA\nINFEASIBLE\nFARKAS\nEND\n",
+        "ROWS\n N obj\n N r\nCOLUMNS\nENDATA\nINFEASIBLE\nFARKAS\nEND\n",
+        "ROWS\n N obj\n L obj\nCOLUMNS\nENDATA\nINFEASIBLE\nFARKAS\nEND\n",
+        "ROWS\n N obj\nCOLUMNS\n x r 1\nENDATA\nINFEASIBLE\nFARKAS\nEND\n",
+        "ROWS\n N obj\nCOLUMNS\n x obj 1 obj 2\nENDATA\nINFEASIBLE\nFARKAS\nEND\n",
+        "ROWS\n N obj\nCOLUMNS\n x  obj 1\nENDATA\nINFEASIBLE\nFARKAS\nEND\n",
+        "ROWS\n N obj\n E r\nCOLUMNS\nRHS\n a r 1\n b obj 1\nENDATA\nINFEASIBLE\nFARKAS\nEND\n",
+        "ROWS\n N obj\n E r\nCOLUMNS\nENDATA\nINFEASIBLE\nFARKAS\nY r 0\nEND\n",
+        "ROWS\n N obj\n E r\nCOLUMNS\nENDATA\nINFEASIBLE\nFARKAS\nEND\n\n",
+    ] {
+        assert!(rt; is_refused(&rt, text));
+    }
 }
