@@ -4,7 +4,7 @@ use crate::{
     AddFault, Column, Name, NameFault, PointTest, Program, Region, Row, check_point, is_marker,
     is_row, value,
 };
-use frac_core::{Frac, Memory, Op, Tried, Vector};
+use frac_core::{Frac, Memory, Tried, Vector};
 use std::alloc::Global;
 use std::test::Fail;
 
@@ -71,6 +71,8 @@ fn set_row(p: &mut Program, i: u32, row: Row) {
 fn set_column(p: &mut Program, j: u32, column: Column, cost: Frac) {
     if j < p.columns() {
         p.set_column(j, column);
+    }
+    if j < p.columns() {
         p.set_cost(j, cost);
     }
 }
@@ -191,68 +193,71 @@ fn bad_names(rt: HostRuntime) {
     }
 }
 
-fn point(alloc: Global, first: i128, second: i128) -> Result<Vector<Frac>, Memory> {
-    let mut x = Vector::filled(alloc, 0, Frac::whole(0))?;
-    for entry in [number(first), number(second)] {
-        if let Some(entry) = entry {
-            x.push(entry)?;
-        }
-    }
+fn point(alloc: Global, first: u8, second: u8) -> Result<Vector<Frac>, Memory> {
+    let mut x = Vector::filled(alloc, 1, Frac::whole(i128::from(first)))?;
+    x.push(Frac::whole(i128::from(second)))?;
     Ok(x)
 }
 
-fn tested(p: &Program, region: &Region, x: &Vector<Frac>) -> Option<Result<PointTest, Op>> {
+// The place of the row, the bound or the mark that a point breaks, counted from 1; 0 for none, and nothing for a refusal.
+fn broken(p: &Program, region: &Region, x: &Vector<Frac>) -> Option<u32> {
     let columns = p.columns() as usize;
     if region.len() != columns || x.len() != columns {
         return None;
     }
     match check_point(p, region, x) {
-        Ok(found) => Some(Ok(found)),
-        Err(refused) => Some(Err(refused.op)),
+        Ok(PointTest::Inside) => Some(0),
+        Ok(PointTest::Row(i)) => i.checked_add(1),
+        Ok(PointTest::Bound(j)) | Ok(PointTest::Mark(j)) => j.checked_add(100),
+        Err(_) => None,
     }
 }
 
-fn valued(p: &Program, x: &Vector<Frac>) -> Option<i128> {
+fn value_is(p: &Program, x: &Vector<Frac>, wanted: i128) -> bool {
     if x.len() != p.columns() as usize {
-        return None;
+        return false;
     }
     match value(p, x) {
-        Tried::Is(value) => Some(value.num()),
-        Tried::Past(_) => None,
-    }
-}
-
-fn cut(region: &mut Region, low: Frac, high: Frac) {
-    if region.len() == 2 {
-        region.cut_low(1, low);
-        region.cut_high(1, high);
-    }
-}
-
-fn ends(region: &Region) -> Option<(Option<Frac>, Option<Frac>)> {
-    if region.len() == 2 {
-        Some((region.low(1), region.high(1)))
-    } else {
-        None
+        Tried::Is(value) => value.num() == wanted,
+        Tried::Past(_) => false,
     }
 }
 
 #[test]
 fn points(rt: HostRuntime) -> Result<(), Fail> {
     let p = first(rt.alloc())?;
-    let mut region = Region::of(rt.alloc(), &p)?;
+    let region = Region::of(rt.alloc(), &p)?;
+    for (a, b, place) in [(2, 3, 0), (9, 1, 1), (2, 4, 2), (2, 5, 2), (1, 2, 0)] {
+        let x = point(rt.alloc(), a, b)?;
+        assert!(rt; broken(&p, &region, &x) == Some(place));
+    }
     let best = point(rt.alloc(), 2, 3)?;
-    assert!(rt; tested(&p, &region, &best) == Some(Ok(PointTest::Inside)));
-    assert!(rt; valued(&p, &best) == Some(8));
-    let past = point(rt.alloc(), i128::MAX, 1)?;
-    assert!(rt; tested(&p, &region, &past) == Some(Err(Op::Add)) && valued(&p, &past).is_none());
-    let outside = point(rt.alloc(), 2, 4)?;
-    assert!(rt; tested(&p, &region, &outside) == Some(Ok(PointTest::Row(1))));
-    cut(&mut region, Frac::whole(-1), Frac::whole(2));
-    assert!(rt; tested(&p, &region, &best) == Some(Ok(PointTest::Bound(1))));
-    assert!(rt; region.crossed() == None);
-    cut(&mut region, Frac::whole(3), Frac::whole(9));
-    assert!(rt; region.crossed() == Some(1));
-    assert!(rt; ends(&region) == Some((number(3), number(2))));
+    assert!(rt; value_is(&p, &best, 8));
+    Ok(())
+}
+
+fn cut(region: &mut Region, low: u8, high: u8) {
+    if region.len() == 2 {
+        region.cut_low(1, Frac::whole(i128::from(low)));
+    }
+    if region.len() == 2 {
+        region.cut_high(1, Frac::whole(i128::from(high)));
+    }
+}
+
+fn bounds_are(region: &Region, low: i128, high: i128) -> bool {
+    region.len() == 2 && region.low(1) == number(low) && region.high(1) == number(high)
+}
+
+#[test]
+fn regions(rt: HostRuntime) -> Result<(), Fail> {
+    let p = first(rt.alloc())?;
+    let mut region = Region::of(rt.alloc(), &p)?;
+    cut(&mut region, 1, 2);
+    assert!(rt; bounds_are(&region, 1, 2) && region.crossed().is_none());
+    let x = point(rt.alloc(), 2, 3)?;
+    assert!(rt; broken(&p, &region, &x) == Some(101));
+    cut(&mut region, 3, 9);
+    assert!(rt; bounds_are(&region, 3, 2) && region.crossed() == Some(1));
     Ok(())
 }
