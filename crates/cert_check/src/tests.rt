@@ -13,7 +13,7 @@ use crate::trees::node_of;
 use certificate_law::{Certificate, Node, Tree};
 use check_law::Checked;
 use check_steps::is_positive;
-use frac_core::{Frac, Memory, Op, Vector};
+use frac_core::{Frac, Memory, Vector};
 use program_law::{Column, Row, Square, Squares};
 use program_model::{Name, Program, is_marker, is_row};
 use std::alloc::Global;
@@ -108,24 +108,24 @@ fn fits(p: &Program, c: &Certificate) -> bool
     }
 }
 
-fn operation(op: Op) -> u32 {
-    match op {
-        Op::Add => 1,
-        Op::Sub => 2,
-        Op::Mul => 3,
-        Op::Div => 4,
-    }
-}
-
-// What `check` answers, as a rule and a place: 0 and 0 for accepted, 99 and the operation for past.
-fn told(alloc: Global, p: &Program, c: &Certificate) -> Result<(u8, u32), Memory> {
+// Whether `check` answers so: a rule and its place, 0 for accepted, 99 for an operation that is past.
+fn answers(
+    alloc: Global,
+    p: &Program,
+    c: &Certificate,
+    rule: u8,
+    place: u32,
+) -> Result<bool, Memory> {
     if !fits(p, c) {
-        return Ok((255, 0));
+        return Ok(false);
     }
     match check(alloc, p, c)? {
-        Checked::Accepted => Ok((0, 0)),
-        Checked::Rejected { rule, place } => Ok((rule, place)),
-        Checked::Past(refused) => Ok((99, operation(refused.op))),
+        Checked::Accepted => Ok(rule == 0),
+        Checked::Rejected {
+            rule: broken,
+            place: at,
+        } => Ok(broken == rule && at == place),
+        Checked::Past(_) => Ok(rule == 99),
     }
 }
 
@@ -139,273 +139,258 @@ fn whole(value: i128) -> Frac {
     }
 }
 
-fn ratio(top: i128, bottom: i128) -> Frac {
-    Frac::of_parts(top, bottom).unwrap_or(Frac::whole(0))
+fn name(alloc: Global, letter: u8) -> Result<Name, Fail> {
+    Ok(Name::of(alloc, &[letter])?)
 }
 
-fn row(low: Option<Frac>, high: Option<Frac>) -> Row {
-    Row { low, high }
-}
-
-fn column(low: Option<Frac>, high: Option<Frac>, whole: bool) -> Column {
-    Column { low, high, whole }
-}
-
-fn name(alloc: Global, letter: u8, place: u32) -> Result<Name, Fail> {
-    Ok(Name::of(alloc, &[letter, b'a' + (place % 26) as u8])?)
-}
-
-// A program with these rows and columns.
-fn program(alloc: Global, rows: &[Row], columns: &[Column]) -> Result<Program, Fail> {
-    let objective = name(alloc, b'o', 0)?;
+fn start(alloc: Global) -> Result<Program, Fail> {
+    let objective = name(alloc, b'o')?;
     if is_marker(objective.bytes()) {
         return Err(Fail::new("a marker"));
     }
-    let mut p = Program::start(alloc, objective)?;
-    for i in 0..rows.len() {
-        let name = name(alloc, b'r', i as u32)?;
-        if is_marker(name.bytes()) || !is_row(&rows[i]) {
-            return Err(Fail::new("no row"));
-        }
-        p.add_row(name, rows[i])?;
-    }
-    for j in 0..columns.len() {
-        p.add_column(name(alloc, b'c', j as u32)?, columns[j])?;
-    }
-    Ok(p)
+    Ok(Program::start(alloc, objective)?)
 }
 
-fn set_entries(p: &mut Program, entries: &[(u32, u32, i128)]) {
-    for (i, j, value) in entries {
-        if *i < p.rows() && *j < p.columns() {
-            p.set_entry(*i, *j, whole(*value));
-        }
-    }
-}
-
-fn set_pairs(p: &mut Program, pairs: &[(u32, u32, i128)]) {
-    for (j, k, value) in pairs {
-        if *j < p.columns() && *k < p.columns() {
-            p.set_pair(*j, *k, whole(*value));
-        }
-    }
-}
-
-fn set_costs(p: &mut Program, costs: &[i128]) {
-    for j in 0..costs.len().min(2) {
-        if (j as u32) < p.columns() {
-            p.set_cost(j as u32, whole(costs[j]));
-        }
-    }
-}
-
-// ---- certificates
-
-fn numbers(alloc: Global, tops: &[i128], bottom: i128) -> Result<Vector<Frac>, Memory> {
-    let mut numbers = Vector::filled(alloc, 0, Frac::whole(0))?;
-    for top in tops {
-        numbers.push(ratio(*top, bottom))?;
-    }
-    Ok(numbers)
-}
-
-// Squares by their weights and forms of two columns, of which the first `width` are taken.
-fn squares(alloc: Global, width: usize, squares: &[(i128, [i128; 2])]) -> Result<Squares, Memory> {
-    let mut all = Squares::start(alloc);
-    for (weight, coef) in squares {
-        all.push(Square {
-            weight: whole(*weight),
-            coef: numbers(alloc, &coef[..width.min(2)], 1)?,
-        })?;
-    }
-    Ok(all)
-}
-
-// A tree by its nodes: a letter, a branch's number, a point and multipliers.
-fn tree(
+fn add_row(
+    p: &mut Program,
     alloc: Global,
-    p: &Program,
-    nodes: &[(u8, i128, [i128; 2], [i128; 2])],
-) -> Result<Tree, Fail> {
-    let columns = (p.columns() as usize).min(2);
-    let rows = (p.rows() as usize).min(2);
-    let mut builder = Tree::start(alloc);
-    for (letter, k, w, y) in nodes {
-        let node = match *letter {
-            b'r' => Node::Branch(0, *k),
-            b'b' => Node::Bound(
-                numbers(alloc, &w[..columns], 1)?,
-                numbers(alloc, &y[..rows], 1)?,
-            ),
-            b'f' => Node::Farkas(numbers(alloc, &y[..rows], 1)?),
-            _ => Node::Cross(0),
-        };
-        builder.put(node)?;
+    letter: u8,
+    low: Option<Frac>,
+    high: Option<Frac>,
+) -> Result<(), Fail> {
+    let name = name(alloc, letter)?;
+    let row = Row { low, high };
+    if is_marker(name.bytes()) || !is_row(&row) {
+        return Err(Fail::new("no row"));
     }
-    match builder.finish() {
-        Ok(tree) => Ok(tree),
-        Err(_) => Err(Fail::new("no tree")),
+    p.add_row(name, Row { low, high })?;
+    Ok(())
+}
+
+fn add_column(
+    p: &mut Program,
+    alloc: Global,
+    letter: u8,
+    low: Frac,
+    high: Option<Frac>,
+    whole: bool,
+) -> Result<(), Fail> {
+    let column = Column {
+        low: Some(low),
+        high,
+        whole,
+    };
+    p.add_column(name(alloc, letter)?, column)?;
+    Ok(())
+}
+
+fn set_entry(p: &mut Program, i: u32, j: u32, value: i128) {
+    if i < p.rows() && j < p.columns() {
+        p.set_entry(i, j, whole(value));
+    }
+}
+
+fn set_pair(p: &mut Program, j: u32, k: u32, value: i128) {
+    if j < p.columns() && k < p.columns() {
+        p.set_pair(j, k, whole(value));
+    }
+}
+
+fn set_cost(p: &mut Program, j: u32, value: i128) {
+    if j < p.columns() {
+        p.set_cost(j, whole(value));
     }
 }
 
 // x <= 1 and x >= 2.
 fn apart(alloc: Global) -> Result<Program, Fail> {
-    let rows = [row(None, Some(whole(1))), row(Some(whole(2)), None)];
-    let mut p = program(alloc, &rows, &[column(Some(whole(0)), None, false)])?;
-    set_entries(&mut p, &[(0, 0, 1), (1, 0, 1)]);
+    let mut p = start(alloc)?;
+    add_row(&mut p, alloc, b'a', None, Some(whole(1)))?;
+    add_row(&mut p, alloc, b'b', Some(whole(2)), None)?;
+    add_column(&mut p, alloc, b'x', whole(0), None, false)?;
+    set_entry(&mut p, 0, 0, 1);
+    set_entry(&mut p, 1, 0, 1);
     Ok(p)
+}
+
+// Minimise x^2 + 4y^2 - 32y + 64 where x + y <= 7, -x + 2y <= 4, x >= 0 and 0 <= y <= 4.
+fn first(alloc: Global) -> Result<Program, Fail> {
+    let mut p = start(alloc)?;
+    add_row(&mut p, alloc, b'a', None, Some(whole(7)))?;
+    add_row(&mut p, alloc, b'b', None, Some(whole(4)))?;
+    add_column(&mut p, alloc, b'x', whole(0), None, false)?;
+    add_column(&mut p, alloc, b'y', whole(0), Some(whole(4)), false)?;
+    for (i, j, value) in [(0, 0, 1i8), (0, 1, 1), (1, 0, -1), (1, 1, 2)] {
+        set_entry(&mut p, i, j, i128::from(value));
+    }
+    set_cost(&mut p, 1, -32);
+    p.set_constant(whole(64));
+    set_pair(&mut p, 0, 0, 2);
+    set_pair(&mut p, 1, 1, 8);
+    Ok(p)
+}
+
+// ---- certificates
+
+fn one(alloc: Global, a: i128) -> Result<Vector<Frac>, Memory> {
+    Vector::filled(alloc, 1, whole(a))
+}
+
+fn two(alloc: Global, a: i128, b: i128) -> Result<Vector<Frac>, Memory> {
+    let mut numbers = Vector::filled(alloc, 1, whole(a))?;
+    numbers.push(whole(b))?;
+    Ok(numbers)
+}
+
+fn leaf(alloc: Global, node: Node) -> Result<Tree, Fail> {
+    let mut nodes = Tree::start(alloc);
+    nodes.put(node)?;
+    nodes.finish().map_err(|_| Fail::new("no tree"))
+}
+
+fn branch(alloc: Global, k: i128, left: Node, right: Node) -> Result<Tree, Fail> {
+    let mut nodes = Tree::start(alloc);
+    nodes.put(Node::Branch(0, k))?;
+    nodes.put(left)?;
+    nodes.put(right)?;
+    nodes.finish().map_err(|_| Fail::new("no tree"))
+}
+
+fn add_square(squares: &mut Squares, weight: i128, coef: Vector<Frac>) -> Result<(), Memory> {
+    let weight = whole(weight);
+    squares.push(Square { weight, coef })
 }
 
 #[test]
 fn one_leaf(rt: HostRuntime) -> Result<(), Fail> {
     let p = apart(rt.alloc())?;
-    for (y, want) in [
-        ([-1, 1], (0, 0)),
-        ([-1, 0], (9, 1)),
-        ([0, 0], (9, 1)),
-        ([1, 0], (7, 1)),
-        ([-1, i128::MAX], (99, 3)),
+    for (a, b, rule, place) in [
+        (-1, 1, 0, 0),
+        (-1, 0, 9, 1),
+        (0, 0, 9, 1),
+        (1, 0, 7, 1),
+        (-1, i128::MAX, 99, 0),
     ] {
-        let tree = tree(rt.alloc(), &p, &[(b'f', 0, [0, 0], y)])?;
-        assert_eq!(rt; told(rt.alloc(), &p, &Certificate::Infeasible(tree))?, want);
+        let tree = leaf(rt.alloc(), Node::Farkas(two(rt.alloc(), a, b)?))?;
+        let c = Certificate::Infeasible(tree);
+        assert!(rt; answers(rt.alloc(), &p, &c, rule, place)?);
     }
     Ok(())
 }
 
-// Minimise x^2 + 4y^2 - 32y + 64 where x + y <= 7, -x + 2y <= 4, x >= 0 and 0 <= y <= 4.
-fn first(alloc: Global) -> Result<Program, Fail> {
-    let rows = [row(None, Some(whole(7))), row(None, Some(whole(4)))];
-    let columns = [
-        column(Some(whole(0)), None, false),
-        column(Some(whole(0)), Some(whole(4)), false),
-    ];
-    let mut p = program(alloc, &rows, &columns)?;
-    set_entries(&mut p, &[(0, 0, 1), (0, 1, 1), (1, 0, -1), (1, 1, 2)]);
-    set_costs(&mut p, &[0, -32]);
-    p.set_constant(whole(64));
-    set_pairs(&mut p, &[(0, 0, 2), (1, 1, 8)]);
-    Ok(p)
+// A certificate of the first program: its point, value, first weight, and a tree.
+fn optimal(
+    alloc: Global,
+    x: i128,
+    v: i128,
+    weight: i128,
+    tree: Tree,
+) -> Result<Certificate, Memory> {
+    let mut squares = Squares::start(alloc);
+    add_square(&mut squares, weight, two(alloc, 1, 0)?)?;
+    add_square(&mut squares, 8, two(alloc, 0, 1)?)?;
+    Ok(Certificate::Optimal(two(alloc, x, 3)?, whole(v), squares, tree))
+}
+
+fn bound(alloc: Global, y: i128) -> Result<Node, Memory> {
+    Ok(Node::Bound(two(alloc, 2, 3)?, two(alloc, 0, y)?))
 }
 
 #[test]
 fn first_program(rt: HostRuntime) -> Result<(), Fail> {
     let p = first(rt.alloc())?;
-    let leaf = (b'b', 0, [2, 3], [0, -4]);
-    let cross = (b'c', 0, [0, 0], [0, 0]);
-    for (point, v, weight, branches, last, want) in [
-        ([2, 3], 8, 2, 0, leaf, (0, 0)),
-        ([2, 3], 7, 2, 0, leaf, (4, 0)),
-        ([2, 3], 8, 2, 0, (b'b', 0, [2, 3], [0, -3]), (8, 1)),
-        ([5, 3], 8, 2, 0, leaf, (1, 1)),
-        ([-1, 0], 8, 2, 0, leaf, (2, 1)),
-        ([2, 3], 8, 3, 0, leaf, (5, 1)),
-        ([2, 3], 8, 2, 0, cross, (10, 1)),
-        ([2, 3], 8, 2, 1, leaf, (6, 1)),
+    for (x, v, weight, y, rule, place) in [
+        (2, 8, 2, -4, 0, 0),
+        (2, 7, 2, -4, 4, 0),
+        (2, 8, 2, -3, 8, 1),
+        (5, 8, 2, -4, 1, 1),
+        (2, 8, 3, -4, 5, 1),
     ] {
-        let nodes = [(b'r', 2, [0, 0], [0, 0]), leaf, cross];
-        let alone = [last];
-        let tree = tree(
-            rt.alloc(),
-            &p,
-            if branches == 1 {
-                &nodes[..]
-            } else {
-                &alone[..]
-            },
-        )?;
-        let squares = squares(rt.alloc(), 2, &[(weight, [1, 0]), (8, [0, 1])])?;
-        let c = Certificate::Optimal(numbers(rt.alloc(), &point, 1)?, whole(v), squares, tree);
-        assert_eq!(rt; told(rt.alloc(), &p, &c)?, want);
+        let tree = leaf(rt.alloc(), bound(rt.alloc(), y)?)?;
+        let c = optimal(rt.alloc(), x, v, weight, tree)?;
+        assert!(rt; answers(rt.alloc(), &p, &c, rule, place)?);
     }
+    let c = optimal(rt.alloc(), 2, 8, 2, leaf(rt.alloc(), Node::Cross(0))?)?;
+    assert!(rt; answers(rt.alloc(), &p, &c, 10, 1)?);
+    let tree = branch(rt.alloc(), 2, bound(rt.alloc(), -4)?, Node::Cross(0))?;
+    let c = optimal(rt.alloc(), 2, 8, 2, tree)?;
+    assert!(rt; answers(rt.alloc(), &p, &c, 6, 1)?);
     Ok(())
 }
 
 // No rows, x marked with bounds 1/5 and 4/5.
 #[test]
 fn branches(rt: HostRuntime) -> Result<(), Fail> {
-    let p = program(
+    let mut p = start(rt.alloc())?;
+    add_column(
+        &mut p,
         rt.alloc(),
-        &[],
-        &[column(Some(ratio(1, 5)), Some(ratio(4, 5)), true)],
+        b'x',
+        Frac::of_parts(1, 5)?,
+        Some(Frac::of_parts(4, 5)?),
+        true,
     )?;
-    for (k, last, want) in [
-        (0, b'c', (0, 0)),
-        (0, b'f', (9, 3)),
-        (1, b'c', (10, 2)),
-        (i128::MAX, b'c', (99, 1)),
-    ] {
-        let nodes = [
-            (b'r', k, [0, 0], [0, 0]),
-            (b'c', 0, [0, 0], [0, 0]),
-            (last, 0, [0, 0], [0, 0]),
-        ];
-        let tree = tree(rt.alloc(), &p, &nodes)?;
-        assert_eq!(rt; told(rt.alloc(), &p, &Certificate::Infeasible(tree))?, want);
+    for (k, rule, place) in [(0, 0, 0), (1, 10, 2), (i128::MAX, 99, 0)] {
+        let tree = branch(rt.alloc(), k, Node::Cross(0), Node::Cross(0))?;
+        let c = Certificate::Infeasible(tree);
+        assert!(rt; answers(rt.alloc(), &p, &c, rule, place)?);
     }
     Ok(())
 }
 
-// A ray of a program of one column x >= 0.
-fn ray_told(
-    alloc: Global,
-    p: &Program,
-    d: i128,
-    weights: &[(i128, [i128; 2])],
-) -> Result<(u8, u32), Fail> {
-    let c = Certificate::Unbounded(
-        numbers(alloc, &[0], 1)?,
-        numbers(alloc, &[d], 1)?,
-        squares(alloc, 1, weights)?,
-    );
-    Ok(told(alloc, p, &c)?)
+// A ray of one column from 0, with one square of weight 2 where it is asked for.
+fn ray(alloc: Global, d: i128, square: bool) -> Result<Certificate, Memory> {
+    let mut squares = Squares::start(alloc);
+    if square {
+        add_square(&mut squares, 2, one(alloc, 1)?)?;
+    }
+    Ok(Certificate::Unbounded(one(alloc, 0)?, one(alloc, d)?, squares))
 }
 
 #[test]
 fn rays_and_vectors(rt: HostRuntime) -> Result<(), Fail> {
-    let column = column(Some(whole(0)), None, true);
-    let mut bounded = program(rt.alloc(), &[row(None, Some(whole(3)))], &[column])?;
-    set_entries(&mut bounded, &[(0, 0, 2)]);
-    set_costs(&mut bounded, &[-1]);
-    assert_eq!(rt; ray_told(rt.alloc(), &bounded, 1, &[])?, (11, 1));
-    let mut falling = program(rt.alloc(), &[], &[column])?;
-    set_costs(&mut falling, &[-1]);
-    for (d, want) in [(1, (0, 0)), (-1, (12, 1)), (0, (14, 0))] {
-        assert_eq!(rt; ray_told(rt.alloc(), &falling, d, &[])?, want);
+    let mut p = start(rt.alloc())?;
+    add_column(&mut p, rt.alloc(), b'x', whole(0), None, true)?;
+    set_cost(&mut p, 0, -1);
+    for (d, rule, place) in [(1, 0, 0), (-1, 12, 1), (0, 14, 0)] {
+        assert!(rt; answers(rt.alloc(), &p, &ray(rt.alloc(), d, false)?, rule, place)?);
     }
-    set_pairs(&mut falling, &[(0, 0, 2)]);
-    assert_eq!(rt; ray_told(rt.alloc(), &falling, 1, &[(2, [1, 0])])?, (13, 1));
-    let mut saddle = program(rt.alloc(), &[], &[column, column])?;
-    set_pairs(&mut saddle, &[(0, 1, 1)]);
-    for (v, want) in [([1, -1], (0, 0)), ([1, 0], (15, 0))] {
-        let c = Certificate::NotConvex(numbers(rt.alloc(), &v, 1)?);
-        assert_eq!(rt; told(rt.alloc(), &saddle, &c)?, want);
-    }
+    add_row(&mut p, rt.alloc(), b'a', None, Some(whole(3)))?;
+    set_entry(&mut p, 0, 0, 2);
+    assert!(rt; answers(rt.alloc(), &p, &ray(rt.alloc(), 1, false)?, 11, 1)?);
+    set_entry(&mut p, 0, 0, 0);
+    set_pair(&mut p, 0, 0, 2);
+    assert!(rt; answers(rt.alloc(), &p, &ray(rt.alloc(), 1, true)?, 13, 1)?);
+    assert!(rt;
+        answers(
+            rt.alloc(),
+            &p,
+            &Certificate::NotConvex(one(rt.alloc(), 1)?),
+            15,
+            0
+        )?
+    );
+    set_pair(&mut p, 0, 0, -2);
+    assert!(rt;
+        answers(
+            rt.alloc(),
+            &p,
+            &Certificate::NotConvex(one(rt.alloc(), 1)?),
+            0,
+            0
+        )?
+    );
     Ok(())
 }
 
-// Past the largest numerator: a sum of two of them.
+// x is marked, and the point 3/2 breaks the mark.
 #[test]
-fn marks_and_past_sums(rt: HostRuntime) -> Result<(), Fail> {
-    let marked = column(Some(whole(0)), None, true);
-    let mut p = program(rt.alloc(), &[row(None, Some(whole(3)))], &[marked])?;
-    set_entries(&mut p, &[(0, 0, 2)]);
-    let leaf = (b'b', 0, [0, 0], [0, 0]);
-    let c = Certificate::Optimal(
-        numbers(rt.alloc(), &[3], 2)?,
-        whole(0),
-        squares(rt.alloc(), 1, &[])?,
-        tree(rt.alloc(), &p, &[leaf])?,
-    );
-    assert_eq!(rt; told(rt.alloc(), &p, &c)?, (3, 1));
-    let from_one = column(Some(whole(1)), None, false);
-    let mut large = program(rt.alloc(), &[], &[from_one, from_one])?;
-    set_costs(&mut large, &[i128::MAX, i128::MAX]);
-    let c = Certificate::Optimal(
-        numbers(rt.alloc(), &[1, 1], 1)?,
-        whole(0),
-        squares(rt.alloc(), 2, &[])?,
-        tree(rt.alloc(), &large, &[leaf])?,
-    );
-    assert_eq!(rt; told(rt.alloc(), &large, &c)?, (99, 1));
+fn marks(rt: HostRuntime) -> Result<(), Fail> {
+    let mut p = start(rt.alloc())?;
+    add_column(&mut p, rt.alloc(), b'x', whole(0), None, true)?;
+    let point = Vector::filled(rt.alloc(), 1, Frac::of_parts(3, 2)?)?;
+    let tree = leaf(rt.alloc(), Node::Cross(0))?;
+    let c = Certificate::Optimal(point, whole(0), Squares::start(rt.alloc()), tree);
+    assert!(rt; answers(rt.alloc(), &p, &c, 3, 1)?);
     Ok(())
 }
