@@ -1,0 +1,2 @@
+//! The equational form of a program in a region, and its maps back.
+#![tactic(auto)]
