@@ -19,6 +19,9 @@ ghost use Rattle.certificate_law.specs.Squares.{AreSquaresOf, IsSemidefinite};
 ghost use Rattle.certificate_law.specs.Ray.{IsRay};
 ghost use Rattle.certificate_law.specs.Good.{IsGood, verdict_of};
 
+mod builder;
+
+pub use builder::TreeBuilder;
 use frac_core::{Frac, Vector};
 use program_law::Squares;
 use std::marker::Model;
@@ -113,3 +116,6 @@ pub fn ray_leads_below()
 pub fn good_certificates_are_true()
     ensures { (p : Program) (c : Certificate) → IsGood p c → IsTrueOf p (verdict_of c) }
 {}
+
+#[cfg(test)]
+mod tests;

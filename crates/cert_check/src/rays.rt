@@ -1,0 +1,89 @@
+// The tests of a ray.
+
+ghost use Rattle.std.specs.Prelude.{◌≡◌, length};
+ghost use Rattle.program_law.specs.Program.{sides, bounds};
+ghost use Rattle.check_law.specs.Ray.{keeps_sides, row_keeps, rows_keep, columns_keep, row_flat, rows_flat, ray_test};
+
+use crate::reading::{bounds_of, column_count, entries_of, pairs_of, row_count, sides_of};
+use check_law::Event;
+use check_steps::{dot_with, entry, is_negative, is_positive, is_zero, tested};
+use frac_core::{Frac, Vector};
+use program_law::Row;
+use program_model::Program;
+
+// Whether a change leads out of no side.
+fn keeps_sides(sides: Row, d: Frac) -> bool
+    ensures { result ≡ keeps_sides sides d }
+{
+    (sides.low.is_none() || !is_negative(d)) && (sides.high.is_none() || !is_positive(d))
+}
+
+// A row's sum along the ray keeps its sides.
+#[tactic(auto, unfolding(check_law::specs::Ray::row_keeps))]
+fn row_keeps(place: u32, sides: Row, row: &[Frac], d: &Vector<Frac>) -> Result<(), Event>
+    requires { length row.now ≡ length d.now }
+    ensures { result ≡ row_keeps place sides row.now d.now }
+{
+    let total = dot_with(row, d)?;
+    tested(keeps_sides(sides, total), 11, place)
+}
+
+// All rows keep their sides.
+fn rows_keep(p: &Program, d: &Vector<Frac>) -> Result<(), Event>
+    requires { length d.now ≡ length p.now.columns }
+    ensures { result ≡ rows_keep 1 (sides p.now) p.now.entries d.now }
+{
+    for i in 0..row_count(p) {
+        row_keeps(i + 1, sides_of(p, i), entries_of(p, i), d)?;
+    }
+    Ok(())
+}
+
+// All columns keep their bounds.
+fn columns_keep(p: &Program, d: &Vector<Frac>) -> Result<(), Event>
+    requires { length d.now ≡ length p.now.columns }
+    ensures { result ≡ columns_keep 1 (bounds p.now) d.now }
+{
+    for j in 0..column_count(p) {
+        tested(
+            keeps_sides(bounds_of(p, j), entry(d, j as usize)),
+            12,
+            j + 1,
+        )?;
+    }
+    Ok(())
+}
+
+// A row of the form along the ray is 0.
+#[tactic(auto, unfolding(check_law::specs::Ray::row_flat))]
+fn row_flat(place: u32, row: &[Frac], d: &Vector<Frac>) -> Result<(), Event>
+    requires { length row.now ≡ length d.now }
+    ensures { result ≡ row_flat place row.now d.now }
+{
+    let total = dot_with(row, d)?;
+    tested(is_zero(total), 13, place)
+}
+
+// All rows of the form along the ray are 0.
+fn rows_flat(p: &Program, d: &Vector<Frac>) -> Result<(), Event>
+    requires { length d.now ≡ length p.now.columns }
+    ensures { result ≡ rows_flat 1 p.now.pairs d.now }
+{
+    for j in 0..column_count(p) {
+        row_flat(j + 1, pairs_of(p, j), d)?;
+    }
+    Ok(())
+}
+
+/// The tests of a ray.
+#[tactic(auto, unfolding(check_law::specs::Ray::ray_test))]
+pub fn ray_tested(p: &Program, d: &Vector<Frac>) -> Result<(), Event>
+    requires { length d.now ≡ length p.now.columns }
+    ensures { result ≡ ray_test p.now d.now }
+{
+    rows_keep(p, d)?;
+    columns_keep(p, d)?;
+    rows_flat(p, d)?;
+    let slope = dot_with(p.costs(), d)?;
+    tested(is_negative(slope), 14, 0)
+}

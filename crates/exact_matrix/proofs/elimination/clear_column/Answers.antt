@@ -1,0 +1,23 @@
+use Rattle.std.proofs.Common.{List, sym, subst}
+use Rattle.std.specs.Prelude.{unsigned_abs, Result}
+use Rattle.std.proofs.lemmas.Result.{err_from_is_err_and}
+use Rattle.frac_core.specs.declared.fractions.Refused.{Refused}
+use Rattle.exact_matrix.specs.Elimination.{Line}
+use Rattle.exact_matrix.specs.Grid.{row_at}
+use Rattle.exact_matrix.specs.State.{IsLines, state}
+use Rattle.exact_matrix.proofs.States.{entry_read, cleared_by_copy, cleared_past}
+use Rattle.exact_matrix.proofs.elimination.clear_column.Goals as goal
+
+pub returns-in_err-divide-clause-lines : goal.returns-in_err-divide-clause-lines
+returns-in_err-divide-clause-lines g c =
+    let v = g.F.ExactField.value in
+    let p = err_from_is_err_and c.from_residual.result c.from_residual.ensures.1 in
+    rw (p.1, p.2) (cleared_past v (unsigned_abs g.F.ExactField.TOP) c.args.j c.args.pivots.now c.args.rows.now c.args.i (v c.at-pivot.result) _ c.requires.pivot
+    (entry_read v (row_at c.args.rows.now c.args.i) c.args.j c.at-pivot.result c.at-pivot.ensures) c.in_err-divide.ensures.row)
+
+pub returns-clause-lines : goal.returns-clause-lines
+returns-clause-lines g c =
+    let v = g.F.ExactField.value in
+    let e = cleared_by_copy v (unsigned_abs g.F.ExactField.TOP) c.args.j c.args.pivots.now c.set.new.self c.args.rows.now c.divide.new.self c.args.i (v c.at-pivot.result) c.copy_from_slice.new.self c.row.result.now
+    c.requires.pivot (entry_read v (row_at c.args.rows.now c.args.i) c.args.j c.at-pivot.result c.at-pivot.ensures) c.in_ok-divide.ensures.row c.divide.ensures.rest c.set.ensures c.copy_from_slice.ensures.after c.row.ensures.value in
+    subst (λ (r : Result (List Line) Refused). IsLines c.free_rows.result (state v c.set.new.self c.free_rows.new.rows) r) (sym e) c.free_rows.ensures.lines

@@ -1,0 +1,28 @@
+use Rattle.std.proofs.Common.{map, length, ◌<◌, sym, ◌∙◌, arith}
+use Rattle.std.specs.Prelude.{unsigned_abs}
+use Rattle.std.proofs.lemmas.List.{length-map, map-set}
+use Rattle.std.proofs.lemmas.Result.{err_from_is_err_and}
+use Rattle.frac_core.proofs.RowLemmas.{row_more, row_past, row_end}
+use Rattle.exact_matrix.proofs.Passes.{number_read}
+use Rattle.exact_matrix.proofs.rows.take_times.Goals as goal
+
+pub returns : goal.returns
+returns g c =
+    let v = g.F.ExactField.value in
+    sym c.loop-i.invariant ∙ row_end (unsigned_abs g.F.ExactField.TOP) (v c.args.f) (map v c.loop-i.row) (map v c.args.other.now) c.loop-i.i (rw length-map (omega arith))
+
+pub loop-i-preserved : goal.loop-i-preserved
+loop-i-preserved g c =
+    let v = g.F.ExactField.value in
+    let within : c.loop-i.i < length (map v c.loop-i.row) = rw length-map (omega arith) in
+    rw map-set (row_more (unsigned_abs g.F.ExactField.TOP) (v c.args.f) (map v c.loop-i.row) (map v c.args.other.now) c.loop-i.i (v c.index-row-i.result) (v c.index-other-i.result) (v c.in_ok-row.field-0) within
+    (number_read v c.loop-i.row c.loop-i.i c.index-row-i.result (omega arith) c.index-row-i.is)
+    (number_read v c.args.other.now c.loop-i.i c.index-other-i.result (omega arith) c.index-other-i.is) c.in_ok-row.ensures ∙ c.loop-i.invariant)
+
+pub returns-in_err-row : goal.returns-in_err-row
+returns-in_err-row g c =
+    let v = g.F.ExactField.value in
+    let p = err_from_is_err_and c.from_residual.result c.from_residual.ensures.1 in
+    rw (p.1, p.2) (sym c.loop-i.invariant ∙ row_past (unsigned_abs g.F.ExactField.TOP) (v c.args.f) (map v c.loop-i.row) (map v c.args.other.now) c.loop-i.i (v c.index-row-i.result) (v c.index-other-i.result) _
+    (number_read v c.loop-i.row c.loop-i.i c.index-row-i.result (omega arith) c.index-row-i.is)
+    (number_read v c.args.other.now c.loop-i.i c.index-other-i.result (omega arith) c.index-other-i.is) c.in_err-row.ensures)

@@ -1,0 +1,10 @@
+pub mod Outcomes
+pub mod Rows
+pub mod NamedLemmas
+pub mod Padded
+pub mod Changed
+pub mod KeptLemmas
+pub mod Found
+pub mod RegionLemmas
+pub mod PointLemmas
+pub mod ValueLemmas

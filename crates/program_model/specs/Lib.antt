@@ -1,0 +1,6 @@
+pub mod Named
+pub mod Answers
+pub mod Kept
+pub mod Regions
+pub mod Tested
+pub mod Totals

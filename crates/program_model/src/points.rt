@@ -1,0 +1,165 @@
+// The tests of a point, and its value.
+
+ghost use Rattle.std.specs.Prelude.{◌≡◌, Ok, Err, length, pos};
+ghost use Rattle.program_law.specs.Program.{sides, marks};
+ghost use Rattle.check_law.specs.Chain.{answered, NoTestFails};
+ghost use Rattle.check_law.specs.Point.{rows_within, columns_within, point_test};
+ghost use Rattle.check_law.specs.Value.{form_of, half_form, value_of};
+ghost use Rattle.program_model.specs.Totals.{total_with};
+ghost use Rattle.program_model.specs.Tested.{event_of, IsPointEvent, IsInsideIfTold, IsValueIfTold};
+
+use crate::program::Program;
+use crate::reading::{column_count, entries_of, is_marked, pairs_of, row_count, sides_of};
+use crate::regions::Region;
+use check_law::Event;
+use check_steps::{
+    column_tested, dot_with, entry, product_added, quotient, row_product, row_tested, sum,
+};
+use frac_core::{Frac, Refused, Tried, Vector};
+
+/// What the tests of a point find: it is inside, or the first row whose sum is outside its sides, or else the first column
+/// that is outside its bounds or is marked and not whole.
+#[derive(Clone, Copy, Debug, PartialEq, Eq)]
+pub enum PointTest {
+    Inside,
+    Row(u32),
+    Bound(u32),
+    Mark(u32),
+}
+
+// Each row's sum is within its sides.
+fn rows_tested(p: &Program, x: &Vector<Frac>) -> Result<(), Event>
+    requires { length x.now ≡ length p.now.columns }
+    ensures { result ≡ rows_within 1 (sides p.now) p.now.entries x.now }
+{
+    for i in 0..row_count(p) {
+        row_tested(i + 1, sides_of(p, i), entries_of(p, i), x)?;
+    }
+    Ok(())
+}
+
+// Each column is within its bounds, and whole where it is marked.
+fn columns_tested(p: &Program, region: &Region, x: &Vector<Frac>) -> Result<(), Event>
+    requires region { length region.now ≡ length p.now.columns }
+    requires point { length x.now ≡ length p.now.columns }
+    ensures { result ≡ columns_within 1 region.now (marks p.now) x.now }
+{
+    let bounds = region.bounds();
+    for j in 0..column_count(p) {
+        column_tested(
+            j + 1,
+            bounds[j as usize],
+            is_marked(p, j),
+            entry(x, j as usize),
+        )?;
+    }
+    Ok(())
+}
+
+#[tactic(auto, unfolding(check_law::specs::Point::point_test))]
+fn point_tested(p: &Program, region: &Region, x: &Vector<Frac>) -> Result<(), Event>
+    requires region { length region.now ≡ length p.now.columns }
+    requires point { length x.now ≡ length p.now.columns }
+    ensures { result ≡ point_test p.now region.now x.now }
+{
+    rows_tested(p, x)?;
+    columns_tested(p, region, x)
+}
+
+// The answer that tells an event.
+fn told(event: Event) -> Result<PointTest, Refused>
+    requires { IsPointEvent event }
+    ensures { event_of result ≡ Err event }
+{
+    match event {
+        Event::Past(refused) => Err(refused),
+        Event::Failed { rule, place } => match rule {
+            1 => Ok(PointTest::Row(place - 1)),
+            2 => Ok(PointTest::Bound(place - 1)),
+            _ => Ok(PointTest::Mark(place - 1)),
+        },
+    }
+}
+
+/// Tests a point in a region: each row's sum within its sides, then each column within its bounds and whole where it is marked.
+///
+/// # Errors
+/// The first operation whose result does not fit, where no test before it fails.
+pub fn check_point(p: &Program, region: &Region, x: &Vector<Frac>) -> Result<PointTest, Refused>
+    requires region { length region.now ≡ length p.now.columns }
+    requires point { length x.now ≡ length p.now.columns }
+    ensures event { event_of result ≡ point_test p.now region.now x.now }
+    ensures inside { IsInsideIfTold p.now region.now x.now result }
+{
+    let _columns = p.columns();
+    match point_tested(p, region, x) {
+        Ok(()) => Ok(PointTest::Inside),
+        Err(event) => told(event),
+    }
+}
+
+// The sum so far, if it has come this far, with a product.
+fn total_added(total: Result<Frac, Event>, a: Frac, b: Frac) -> Result<Frac, Event>
+    ensures { result ≡ total_with total a b }
+{
+    product_added(total?, a, b)
+}
+
+// The form of a point. The products of all rows come before the sum, so an event of the sum waits for theirs.
+#[tactic(auto, unfolding(check_law::specs::Value::form_of))]
+fn form(p: &Program, x: &Vector<Frac>) -> Result<Frac, Event>
+    requires { length x.now ≡ length p.now.columns }
+    ensures { result ≡ form_of p.now.pairs x.now }
+{
+    let mut total = Ok(Frac::whole(0));
+    for j in 0..column_count(p) {
+        let own = entry(x, j as usize);
+        let product = row_product(pairs_of(p, j), own, x)?;
+        total = total_added(total, own, product);
+    }
+    total
+}
+
+// Half the form of a point.
+#[tactic(auto, unfolding(check_law::specs::Value::half_form))]
+fn half_form(p: &Program, x: &Vector<Frac>) -> Result<Frac, Event>
+    requires { length x.now ≡ length p.now.columns }
+    ensures { result ≡ half_form p.now.pairs x.now }
+{
+    let form = form(p, x)?;
+    quotient(form, Frac::whole(2))
+}
+
+#[tactic(auto, unfolding(check_law::specs::Value::value_of))]
+fn calculated(p: &Program, x: &Vector<Frac>) -> Result<Frac, Event>
+    requires { length x.now ≡ length p.now.columns }
+    ensures { result ≡ value_of p.now x.now }
+{
+    let half = half_form(p, x)?;
+    let linear = dot_with(p.costs(), x)?;
+    let both = sum(half, linear)?;
+    sum(both, p.constant())
+}
+
+// A calculation of operations alone, as their answer.
+fn as_tried(calculated: Result<Frac, Event>) -> Tried
+    requires { NoTestFails calculated }
+    ensures { answered result ≡ calculated }
+{
+    match calculated {
+        Ok(value) => Tried::Is(value),
+        Err(event) => match event {
+            Event::Past(refused) => Tried::Past(refused),
+            Event::Failed { .. } => unreachable!(),
+        },
+    }
+}
+
+/// The value of a point, or the first operation whose result does not fit.
+pub fn value(p: &Program, x: &Vector<Frac>) -> Tried
+    requires { length x.now ≡ length p.now.columns }
+    ensures calculation { answered result ≡ value_of p.now x.now }
+    ensures value { IsValueIfTold p.now x.now result }
+{
+    as_tried(calculated(p, x))
+}

@@ -1,0 +1,4 @@
+pub mod Said
+pub mod Due
+pub mod Runs
+pub mod Codes

@@ -1,0 +1,12 @@
+//! A run of the program: from the words and the bytes of an input to the bytes that are written.
+#![tactic(auto)]
+
+mod answers;
+mod running;
+mod status;
+
+pub use running::run;
+pub use status::Status;
+
+#[cfg(test)]
+mod tests;
