@@ -1,7 +1,6 @@
 -- The two ways between the form's columns and the file's are transposes of each other.
 use Rattle.std.specs.Prelude.{◌≡◌, ℕ, zero, suc, ◌+◌, List, [], ◌∷◌, ◌++◌, length, drop, Option, Some, None}
-use Rattle.std.proofs.Common.{arith, sym, ◌∙◌, ap, refl, ⊥}
-use Rattle.std.proofs.lemmas.List.Elements.{length-append}
+use Rattle.std.proofs.Common.{arith, sym, ◌∙◌, ap, refl, length-append}
 use Rattle.algebra.proofs.Polynomial.{◌⊕◌, ◌⊝◌, ◌⊗◌, ◌≐◌, lit, minus}
 use Rattle.algebra.proofs.Solver.{ring}
 use Rattle.rational.specs.Rational.{ℚ, zero_ℚ, neg_ℚ, ◌+ℚ◌, ◌-ℚ◌, ◌*ℚ◌}
@@ -98,4 +97,4 @@ spread_zero [] (x ∷ v) n h e = absurd (omega arith)
 spread_zero (b ∷ bs) [] n h e = absurd (omega arith)
 spread_zero (b ∷ bs) (x ∷ v) n h e =
     let d = zero_at (standing b) x (spread bs v) n e in
-    ap (λ y. y ∷ v) d.1.0 ∙ ap (λ w. zero_ℚ ∷ w) (spread_zero bs v d.0 (omega arith) d.1.1)
+    ap (λ y. y ∷ v) d.1 ∙ ap (λ w. zero_ℚ ∷ w) (spread_zero bs v d.0 (omega arith) d.2)

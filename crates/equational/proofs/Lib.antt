@@ -1,1 +1,2 @@
 pub mod Adjoint
+pub mod Forms
