@@ -1,2 +1,4 @@
 pub mod Adjoint
 pub mod Forms
+pub mod Equations
+pub mod Points
