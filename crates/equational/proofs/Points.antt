@@ -148,6 +148,6 @@ point_back p region z is e s =
     let others = bound_equations region (row_slacks (sides p)) 0 region in
     let kept : All (IsKept z) (equations p region) = all_kept (slacks p region) (equations p region) z s.equal in
     record {
-      rows = rows_back region h z 0 (sides p) p.entries (length-shift region) (is.height ∙ sym (length-map _ p.rows)) s.not_negative (All-front (IsKept z) ours others kept);
-      columns = columns_back region z (row_slacks (sides p)) 0 region z (λ i. refl) s.not_negative s.not_negative (All-back (IsKept z) ours others kept);
+      rows = rows_back region h z 0 (sides p) p.entries (length-shift region) (is.height ∙ sym (length-map p.rows (λ (r : List ℕ × Row). r.1))) s.not_negative (All-front (IsKept z) ours others kept);
+      columns = columns_back region z (row_slacks (sides p)) 0 region z (λ i. ap (entry (change region z)) (omega arith)) s.not_negative s.not_negative (All-back (IsKept z) ours others kept);
     }
