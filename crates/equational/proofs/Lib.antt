@@ -2,3 +2,5 @@ pub mod Adjoint
 pub mod Forms
 pub mod Equations
 pub mod Points
+pub mod Solved
+pub mod Solving
