@@ -4,3 +4,4 @@ pub mod Equations
 pub mod Points
 pub mod Solved
 pub mod Solving
+pub mod Rays
