@@ -5,3 +5,4 @@ pub mod Points
 pub mod Solved
 pub mod Solving
 pub mod Rays
+pub mod Shapes
