@@ -1,2 +1,9 @@
 //! The equational form of a program in a region, and its maps back.
 #![tactic(auto)]
+
+mod laws;
+
+pub use laws::form_fits;
+pub use laws::rays_are_directions;
+pub use laws::solutions_are_points;
+pub use laws::spread_is_adjoint;
