@@ -6,3 +6,4 @@ pub mod Solved
 pub mod Solving
 pub mod Rays
 pub mod Shapes
+mod Worked
