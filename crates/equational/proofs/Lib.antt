@@ -6,4 +6,5 @@ pub mod Solved
 pub mod Solving
 pub mod Rays
 pub mod Shapes
+pub mod Calculated
 mod Worked

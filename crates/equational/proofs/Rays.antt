@@ -1,5 +1,5 @@
 -- The form's rays are the region's directions with Q d = 0 and c · d = -1.
-use Rattle.std.specs.Prelude.{◌≡◌, ℕ, zero, suc, ◌+◌, List, [], ◌∷◌, ◌++◌, map, length, drop, Option, Some, None, OnSome, IfSome, IsSome, Bool, true, false}
+use Rattle.std.specs.Prelude.{◌≡◌, ℕ, zero, suc, ◌+◌, List, [], ◌∷◌, ◌++◌, length, drop, Option, Some, None, OnSome, IfSome, IsSome, Bool, true, false}
 use Rattle.std.specs.List.{All}
 use Rattle.std.proofs.Common.{arith, sym, subst, ◌∙◌, ap, refl, cond}
 use Rattle.std.proofs.lemmas.List.Elements.{All-head, All-tail, All-drop, All-weaker}
@@ -9,9 +9,9 @@ use Rattle.algebra.proofs.Certificate.{prove, given, scaled, ◌⊞◌, ◌⇐�
 use Rattle.rational.specs.Rational.{ℚ, zero_ℚ, one_ℚ, neg_ℚ, ◌+ℚ◌, ◌-ℚ◌, ◌*ℚ◌}
 use Rattle.rational.specs.Order.{◌≤ℚ◌, same_fields}
 use Rattle.rational.specs.Sums.{entry}
-use Rattle.rational.specs.Vectors.{dot, add_each, zeros, unit_vector, rows_dot}
+use Rattle.rational.specs.Vectors.{dot, zeros, unit_vector, rows_dot}
 use Rattle.rational.proofs.Field.{rationals}
-use Rattle.rational.proofs.Order.{ordered_rationals, le_refl}
+use Rattle.rational.proofs.Order.{ordered_rationals}
 use Rattle.rational.proofs.OrderLaws.{le_of_eq}
 use Rattle.rational.proofs.Vectors.{dot_comm, dot-zeros_right, length-zeros, length-rows_dot}
 use Rattle.rational.proofs.Forms.{form_comm}
@@ -19,13 +19,13 @@ use Rattle.program_law.specs.declared.Row.{Row}
 use Rattle.program_law.specs.Region.{Region}
 use Rattle.program_law.specs.Program.{Program, IsProgram, sides}
 use Rattle.certificate_law.specs.Ray.{KeepsSides, AllKeepSides, AreZero}
-use Rattle.equational.specs.Standing.{Standing, Above, Below, Free, standing_by, standing, shift_at, shift, parts_at, parts, change_at, change, spread_at, spread}
+use Rattle.equational.specs.Standing.{Standing, Above, Below, Free, standing_by, standing, shift, parts_at, parts, change_at, change, spread_at, spread}
 use Rattle.equational.specs.Equations.{Equation, row_equations_by, row_equations, slacks_at, bound_equation_by, bound_slacks_by, bound_equations, row_slacks}
 use Rattle.equational.specs.Form.{equations, slacks, width, form_of, padded, direction_of}
 use Rattle.equational.specs.Solutions.{IsNotNegative, IsFormRay, IsRegionRay, HasItsBounds}
-use Rattle.equational.proofs.Adjoint.{adjoint, length-spread, length-change, spread_zero}
+use Rattle.equational.proofs.Adjoint.{adjoint, spread_zero}
 use Rattle.equational.proofs.Forms.{products, costing, symmetric_pairs}
-use Rattle.equational.proofs.Equations.{All-front, All-back, nonneg_entry, left_side, equation, IsFlat, all_flat, flat_all, dot_one, slacks_side}
+use Rattle.equational.proofs.Equations.{All-front, All-back, nonneg_entry, equation, IsFlat, all_flat, flat_all, dot_one, slacks_side}
 use Rattle.equational.proofs.Points.{unit_side}
 use Rattle.equational.proofs.Solved.{row_gaps, bound_gaps, AllScaledWithin, IsScaled, change-parts_of, less_zero}
 use Rattle.equational.proofs.Solving.{solution_by, long_rows, length-cost, length-solution, nonneg_solution, scaled_solution}
@@ -48,7 +48,7 @@ read : (b c : ℚ) (s : List ℚ) → b +ℚ dot (c ∷ []) s ≡ zero_ℚ → b
 read b c s h = ap (λ x. b +ℚ x) (sym (dot_one c s)) ∙ h
 
 row_keeps : (low high : Option ℚ) (k : ℕ) (row : List ℚ) (a : ℚ) (z : List ℚ) → All IsNotNegative z → All (IsFlat z) (row_equations_by low high k row a)
-  → KeepsSides (record { low = low; high = high }) (dot row z)
+    → KeepsSides (record { low = low; high = high }) (dot row z)
 row_keeps None None k row a z n h = record { low = tt; high = tt }
 row_keeps None (Some u) k row a z n h =
     let s = drop k (drop (length row) z) in
@@ -62,14 +62,19 @@ row_keeps (Some l) (Some u) k row a z n h = by (same_fields l u) h
   where
     s : List ℚ
     s = drop k (drop (length row) z)
+
     m : All IsNotNegative s
     m = All-drop IsNotNegative k (drop (length row) z) (All-drop IsNotNegative (length row) z n)
+
     alone : Equation
     alone = equation row k [] (l -ℚ a)
+
     first : Equation
     first = equation row k (one_ℚ ∷ []) (u -ℚ a)
+
     second : Equation
     second = equation (zeros (length row)) k (one_ℚ ∷ one_ℚ ∷ []) (u -ℚ l)
+
     by : (t : Bool) → All (IsFlat z) (cond t (alone ∷ []) (first ∷ second ∷ [])) → KeepsSides (record { low = Some l; high = Some u }) (dot row z)
     by true h =
         let f : dot row z ≡ zero_ℚ = sym (rationals.add_zero (dot row z)) ∙ All-head (IsFlat z) alone [] h in
@@ -81,15 +86,16 @@ row_keeps (Some l) (Some u) k row a z n h = by (same_fields l u) h
         record { low = two_keep (dot row z) (entry s 0) (entry s 1) f g (nonneg_entry s 1 m); high = high_keeps (dot row z) (entry s 0) f (nonneg_entry s 0 m) }
 
 rows_keep : (region : Region) (h z : List ℚ) (k : ℕ) (ss : List Row) (rows : List (List ℚ)) → length rows ≡ length ss
-  → All IsNotNegative z → All (IsFlat z) (row_equations region h k ss rows) → AllKeepSides ss (rows_dot rows (change region z))
+    → All IsNotNegative z → All (IsFlat z) (row_equations region h k ss rows) → AllKeepSides ss (rows_dot rows (change region z))
 rows_keep region h z k [] [] f n w = tt
 rows_keep region h z k [] (row ∷ rows) f n w = absurd (omega arith)
 rows_keep region h z k (s ∷ ss) [] f n w = absurd (omega arith)
 rows_keep region h z k (s ∷ ss) (row ∷ rows) f n w =
     let these = row_equations_by s.low s.high k (spread region row) (dot row h) in
-    let others = row_equations region h (k + slacks_at s) ss rows in
-    (subst (KeepsSides s) (adjoint region row z) (row_keeps s.low s.high k (spread region row) (dot row h) z n (All-front (IsFlat z) these others w)),
-    rows_keep region h z (k + slacks_at s) ss rows (omega arith) n (All-back (IsFlat z) these others w))
+    let others = row_equations region h (k + slacks_at s) ss rows in (
+      subst (KeepsSides s) (adjoint region row z) (row_keeps s.low s.high k (spread region row) (dot row h) z n (All-front (IsFlat z) these others w)),
+      rows_keep region h z (k + slacks_at s) ss rows (omega arith) n (All-back (IsFlat z) these others w),
+    )
 
 -- ---- one column
 
@@ -97,8 +103,8 @@ neg_nonpos : (x : ℚ) → zero_ℚ ≤ℚ x → neg_ℚ x ≤ℚ zero_ℚ
 neg_nonpos x n = prove ordered_rationals (x ∷ []) (λ x. minus x ≼ lit 0 ⇐ given (lit 0 ≼ x)) refl n
 
 column_keeps : (low high : Option ℚ) (k : ℕ) (unit z rest : List ℚ) → All IsNotNegative z → All IsNotNegative rest
-  → dot unit z ≡ change_at (standing_by low high) rest → All (IsFlat z) (bound_equation_by low high k unit)
-  → KeepsSides (record { low = low; high = high }) (change_at (standing_by low high) rest)
+    → dot unit z ≡ change_at (standing_by low high) rest → All (IsFlat z) (bound_equation_by low high k unit)
+    → KeepsSides (record { low = low; high = high }) (change_at (standing_by low high) rest)
 column_keeps None None k unit z rest n m e h = record { low = tt; high = tt }
 column_keeps None (Some u) k unit z rest n m e h = record { low = tt; high = neg_nonpos (entry rest 0) (nonneg_entry rest 0 m) }
 column_keeps (Some l) None k unit z rest n m e h = record { low = nonneg_entry rest 0 m; high = tt }
@@ -112,19 +118,20 @@ column_keeps (Some l) (Some u) k unit z rest n m e h =
     }
 
 columns_keep : (region : Region) (z : List ℚ) (k j : ℕ) (bs : Region) (rest : List ℚ)
-  → ((i : ℕ) → entry (change region z) (j + i) ≡ entry (change bs rest) i) → All IsNotNegative z → All IsNotNegative rest
-  → All (IsFlat z) (bound_equations region k j bs) → AllKeepSides bs (change bs rest)
+    → ((i : ℕ) → entry (change region z) (j + i) ≡ entry (change bs rest) i) → All IsNotNegative z → All IsNotNegative rest
+    → All (IsFlat z) (bound_equations region k j bs) → AllKeepSides bs (change bs rest)
 columns_keep region z k j [] rest same n m w = tt
 columns_keep region z k j (b ∷ bs) rest same n m w =
     let unit = spread region (unit_vector (length region) j) in
     let these = bound_equation_by b.low b.high k unit in
-    let others = bound_equations region (k + bound_slacks_by b.low b.high) (suc j) bs in
-    (column_keeps b.low b.high k unit z rest n m
-    (unit_side region j z ∙ ap (entry (change region z)) (omega arith) ∙ same 0)
-    (All-front (IsFlat z) these others w),
-    columns_keep region z (k + bound_slacks_by b.low b.high) (suc j) bs (drop (parts_at (standing b)) rest)
-    (λ i. ap (entry (change region z)) (omega arith) ∙ same (suc i)) n (All-drop IsNotNegative (parts_at (standing b)) rest m)
-    (All-back (IsFlat z) these others w))
+    let others = bound_equations region (k + bound_slacks_by b.low b.high) (suc j) bs in (
+      column_keeps b.low b.high k unit z rest n m
+          (unit_side region j z ∙ ap (entry (change region z)) (omega arith) ∙ same 0)
+          (All-front (IsFlat z) these others w),
+      columns_keep region z (k + bound_slacks_by b.low b.high) (suc j) bs (drop (parts_at (standing b)) rest)
+          (λ i. ap (entry (change region z)) (omega arith) ∙ same (suc i)) n (All-drop IsNotNegative (parts_at (standing b)) rest m)
+          (All-back (IsFlat z) these others w),
+    )
 
 -- ---- zeros
 
@@ -207,6 +214,7 @@ scaled_keeps (s ∷ ss) (d ∷ ds) w = (record { low = low s.low w.0.low; high =
     low : (o : Option ℚ) → OnSome o (zero_ℚ ≤ℚ d) → IfSome o (λ l. (zero_ℚ *ℚ l) ≤ℚ d)
     low None h = tt
     low (Some l) h = subst (λ m. m ≤ℚ d) (sym (zero_times l)) h
+
     high : (o : Option ℚ) → OnSome o (d ≤ℚ zero_ℚ) → IfSome o (λ u. d ≤ℚ (zero_ℚ *ℚ u))
     high None h = tt
     high (Some u) h = subst (λ m. d ≤ℚ m) (sym (zero_times u)) h
@@ -221,7 +229,7 @@ pub ray_of : Program → Region → List ℚ → List ℚ
 ray_of p region d = solution_by zero_ℚ p region d
 
 pub ray_from : (p : Program) (region : Region) (d : List ℚ) → IsProgram p → length region ≡ length p.columns → IsRegionRay p region d
-  → IsFormRay (form_of p region) (ray_of p region d) × (direction_of region (ray_of p region d) ≡ d)
+    → IsFormRay (form_of p region) (ray_of p region d) × (direction_of region (ray_of p region d) ≡ d)
 unfolding ray_of
 ray_from p region d is g r =
     let e = keep_length region d r.columns in
@@ -235,15 +243,17 @@ ray_from p region d is g r =
     All-weaker (IsScaled zero_ℚ z) (IsFlat z) (λ e h. h ∙ zero_times e.right) (equations p region) (scaled_solution zero_ℚ p region d is e v) in
     let products_zero : rows_dot f.quadratic z ≡ zeros (width p region) =
     products p region z long ∙ ap (λ t. padded (slacks p region) (spread region t)) (ap (rows_dot p.pairs) back ∙ none)
-    ∙ ap (padded (slacks p region)) (spread-zeros region (length (rows_dot p.pairs d))) ∙ zeros_append (parts region) (slacks p region) in
-    (record {
-      width = length-solution zero_ℚ p region d is e ∙ sym (length-cost p region);
-      equal = flat_all (slacks p region) (equations p region) z flat;
-      flat = products_zero ∙ ap zeros (sym (length-zeros (width p region)) ∙ ap length (sym products_zero) ∙ length-rows_dot f.quadratic z);
-      falls = costing p region z (is.costs_width ∙ sym g) long ∙ ap (λ t. dot p.costs t +ℚ dot (rows_dot p.pairs (shift region)) t) back
-          ∙ ap (λ x. dot p.costs d +ℚ x) (crossed_zero p (shift region) d is (length (rows_dot p.pairs d)) none) ∙ rationals.add_zero (dot p.costs d) ∙ r.falls;
-      not_negative = nonneg_solution zero_ℚ p region d v (scaled_keeps region d r.columns);
-    }, back)
+    ∙ ap (padded (slacks p region)) (spread-zeros region (length (rows_dot p.pairs d))) ∙ zeros_append (parts region) (slacks p region) in (
+      record {
+        width = length-solution zero_ℚ p region d is e ∙ sym (length-cost p region);
+        equal = flat_all (slacks p region) (equations p region) z flat;
+        flat = products_zero ∙ ap zeros (sym (length-zeros (width p region)) ∙ ap length (sym products_zero) ∙ length-rows_dot f.quadratic z);
+        falls = costing p region z (is.costs_width ∙ sym g) long ∙ ap (λ t. dot p.costs t +ℚ dot (rows_dot p.pairs (shift region)) t) back
+            ∙ ap (λ x. dot p.costs d +ℚ x) (crossed_zero p (shift region) d is (length (rows_dot p.pairs d)) none) ∙ rationals.add_zero (dot p.costs d) ∙ r.falls;
+        not_negative = nonneg_solution zero_ℚ p region d v (scaled_keeps region d r.columns);
+      },
+      back,
+    )
 
 -- ---- fewer bounds keep a direction
 

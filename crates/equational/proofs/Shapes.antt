@@ -1,26 +1,26 @@
 -- The parts of the form fit, and its quadratic matrix is symmetric, and semidefinite where the program's is.
-use Rattle.std.specs.Prelude.{◌≡◌, ℕ, zero, suc, ◌+◌, ◌-◌, ◌≤◌, ◌<◌, List, [], ◌∷◌, ◌++◌, map, length, replicate, Option, Some, None, Bool, true, false}
+use Rattle.std.specs.Prelude.{◌≡◌, ℕ, suc, ◌+◌, ◌-◌, ◌≤◌, ◌<◌, List, [], ◌∷◌, ◌++◌, map, length, replicate, Option, Some, None, Bool, true, false}
 use Rattle.std.specs.List.{All}
 use Rattle.std.proofs.Common.{arith, sym, subst, ◌∙◌, ap, refl, cond, inl, inr, length-append}
 use Rattle.std.proofs.lemmas.List.{length-map}
-use Rattle.std.proofs.lemmas.List.Elements.{All-nil, All-cons, All-head, All-tail, All-append, All-map, All-weaker, All-replicate}
+use Rattle.std.proofs.lemmas.List.Elements.{All-nil, All-cons, All-head, All-tail, All-append, All-replicate}
 use Rattle.algebra.proofs.Polynomial.{◌≼◌, lit, minus}
 use Rattle.algebra.proofs.Certificate.{prove, given, ◌⇐◌}
-use Rattle.rational.specs.Rational.{ℚ, zero_ℚ, one_ℚ, neg_ℚ, ◌+ℚ◌, ◌-ℚ◌, ◌*ℚ◌}
-use Rattle.rational.specs.Order.{◌≤ℚ◌, ◌<ℚ◌, same_fields}
+use Rattle.rational.specs.Rational.{ℚ, zero_ℚ, one_ℚ, neg_ℚ, ◌-ℚ◌}
+use Rattle.rational.specs.Order.{◌≤ℚ◌, same_fields}
 use Rattle.rational.specs.Sums.{entry}
 use Rattle.rational.specs.Vectors.{dot, zeros, unit_vector, rows_dot, row_at, HasColumns, IsSymmetric, IsSemidefinite}
 use Rattle.rational.proofs.Order.{ordered_rationals, lt_le, le_or_lt}
-use Rattle.rational.proofs.Vectors.{dot_comm, dot-unit_vector, length-zeros, length-rows_dot, length-unit_vector, length-row_at, entry-rows_dot}
+use Rattle.rational.proofs.Vectors.{dot_comm, dot-unit_vector, length-zeros, length-rows_dot, length-row_at, entry-rows_dot}
 use Rattle.rational.proofs.Forms.{form_comm}
 use Rattle.program_law.specs.Tests.{is_negative}
 use Rattle.program_law.proofs.Numbers.{negative_below, below_negative}
 use Rattle.program_law.specs.declared.Row.{Row}
 use Rattle.program_law.specs.Region.{Region}
 use Rattle.program_law.specs.Program.{Program, IsProgram, sides}
-use Rattle.equational.specs.Standing.{Standing, Above, Below, Free, standing, shift, parts, parts_at, change, spread, spread_rows_at, spread_rows}
+use Rattle.equational.specs.Standing.{Standing, Above, Below, Free, standing, shift, parts, change, spread, spread_rows_at, spread_rows}
 use Rattle.equational.specs.Equations.{Equation, count_by, row_equations_by, row_equations, slacks_at, bound_equation_by, bound_slacks_by, bound_equations, row_slacks, bound_slacks, entries_in, is_negated, matrix_row, right_of}
-use Rattle.equational.specs.Form.{Form, form_of, equations, slacks, width, padded}
+use Rattle.equational.specs.Form.{form_of, equations, slacks, width, padded}
 use Rattle.equational.specs.Solutions.{IsNotNegative, IsForm}
 use Rattle.equational.proofs.Adjoint.{length-spread, length-change}
 use Rattle.equational.proofs.Forms.{products, pairing, symmetric_pairs}
@@ -45,10 +45,13 @@ row_fits (Some l) (Some u) k n m row a e f = by (same_fields l u) f
   where
     alone : Equation
     alone = equation row k [] (l -ℚ a)
+
     first : Equation
     first = equation row k (one_ℚ ∷ []) (u -ℚ a)
+
     second : Equation
     second = equation (zeros (length row)) k (one_ℚ ∷ one_ℚ ∷ []) (u -ℚ l)
+
     by : (t : Bool) → k + (cond {A = ℕ × ℕ} t (1, 0) (2, 2)).1 ≤ m → All (IsFitting n m) (cond t (alone ∷ []) (first ∷ second ∷ []))
     by true f = one_fits n m alone e f
     by false f =
@@ -194,7 +197,7 @@ symmetric p region is e =
     }
 
 pub semidefinite : (p : Program) (region : Region) → IsProgram p → length region ≡ length p.columns → IsSemidefinite (length p.columns) p.pairs
-  → IsSemidefinite (width p region) (form_of p region).quadratic
+    → IsSemidefinite (width p region) (form_of p region).quadratic
 semidefinite p region is e d =
     record {
       symmetric = symmetric p region is e;

@@ -1,12 +1,12 @@
 -- The form of a worked program, by computing.
-use Rattle.std.specs.Prelude.{◌≡◌, ℕ, List, [], ◌∷◌, length, map}
-use Rattle.std.proofs.Common.{refl, ap, ◌∙◌}
+use Rattle.std.specs.Prelude.{◌≡◌, List, [], ◌∷◌, length}
+use Rattle.std.proofs.Common.{refl}
 use Rattle.rational.specs.Divisors.{gcd_of}
 use Rattle.rational.specs.Rational.{ℚ, whole, ratio, neg_ℚ, same_ℚ, ◌+ℚ◌, ◌*ℚ◌}
 use Rattle.rational.specs.Sums.{half}
 use Rattle.rational.specs.Vectors.{rows_dot, quadratic}
 use Rattle.program_law.specs.Program.{bounds}
-use Rattle.program_law.proofs.Worked.{n, minus, first, ranged}
+use Rattle.program_law.proofs.Worked.{n, first, ranged}
 use Rattle.equational.specs.Form.{form_of, width, point_of}
 
 -- x and y, the slacks of the two rows, and that of y's bounds

@@ -1,6 +1,7 @@
 -- The calculation of the form, and those of a point and of a ray back: operations in order, up to the first that is past.
 -- Signs are changed without operations.
-use Rattle.std.specs.Prelude.{ℕ, suc, pos, ◌+◌, List, [], ◌∷◌, ◌++◌, length, drop, Option, Some, None, Result, Ok, Err, if◌then◌else◌}
+use Rattle.std.specs.Prelude.{◌≡◌, ℕ, suc, pos, ◌+◌, List, [], ◌∷◌, ◌++◌, length, drop, Option, Some, None, Result, Ok, Err, if◌then◌else◌}
+use Rattle.std.specs.List.{All}
 use Rattle.rational.specs.Rational.{ℚ, whole, one_ℚ, neg_ℚ, ◌+ℚ◌, ◌/ℚ◌}
 use Rattle.rational.specs.Order.{same_fields}
 use Rattle.rational.specs.Sums.{entry}
@@ -11,7 +12,7 @@ use Rattle.frac_core.specs.declared.fractions.Refused.{Refused}
 use Rattle.frac_core.specs.declared.fractions.Tried.{Tried}
 use Rattle.frac_core.specs.declared.fractions.Tried.TheVariants.{Is, Past}
 use Rattle.frac_core.specs.Calculated.{tried_in}
-use Rattle.frac_core.specs.Operations.{operation}
+use Rattle.frac_core.specs.Operations.{operation, IsWithin, IsFirstPast}
 use Rattle.frac_core.specs.Dot.{dot_of, dot_ops}
 use Rattle.program_law.specs.declared.Row.{Row}
 use Rattle.program_law.specs.Region.{Region}
@@ -33,6 +34,11 @@ number (Past r) = Err r
 -- an operation
 abbrev pub operated : ℕ → Op → ℚ → ℚ → Result ℚ Refused
 operated top op p q = number (tried_in top op p q)
+
+-- what is said of an answer: it is the value, and no operation is past; or it is the first operation that is past
+abbrev pub Gives : {A : Type 0} → ℕ → List Refused → A → Result A Refused → Type 0
+Gives top ops v (Ok x) = All (IsWithin top) ops × (x ≡ v)
+Gives top ops v (Err r) = IsFirstPast top ops r
 
 -- ---- the objective
 

@@ -8,6 +8,7 @@ ghost use Rattle.program_law.specs.Program.{Program, IsProgram};
 ghost use Rattle.program_law.specs.Columns.{IsRelaxedPoint, value};
 ghost use Rattle.equational.specs.Standing.{parts, spread, change};
 ghost use Rattle.equational.specs.Form.{width, form_of, point_of, direction_of};
+ghost use Rattle.equational.specs.Calculation.{Gives, form_in, form_ops, point_in, point_ops, ray_in, ray_ops};
 ghost use Rattle.equational.specs.Solutions.{IsForm, IsSolution, IsFormRay, IsRegionRay, HasItsBounds};
 
 /// The way from the file's columns to the form's is the transpose of the way back, and only zeros spread to zeros.
@@ -34,7 +35,7 @@ pub fn solutions_are_points()
         IsSolution (form_of p region) z → IsRelaxedPoint p region (point_of region z) }
     ensures value { (p : Program) (region : Region) (z : List ℚ) → IsProgram p → length region ≡ length p.columns →
         quadratic (form_of p region).quadratic (form_of p region).cost (form_of p region).constant z
-            ≡ value p (point_of region z) }
+        ≡ value p (point_of region z) }
     ensures every { (p : Program) (region : Region) (x : List ℚ) → IsProgram p → IsRelaxedPoint p region x →
         (z : List ℚ) × IsSolution (form_of p region) z × (point_of region z ≡ x) }
 {}
@@ -48,4 +49,15 @@ pub fn rays_are_directions()
         IsRegionRay p region d → (z : List ℚ) × IsFormRay (form_of p region) z × (direction_of region z ≡ d) }
     ensures fewer { (p : Program) (region other : Region) (d : List ℚ) → HasItsBounds region other →
         IsRegionRay p other d → IsRegionRay p region d }
+{}
+
+/// The calculation of the form answers the form, or the first of its operations that is past; and so do those of the point
+/// of a solution and of the direction of a ray.
+pub fn calculations_answer()
+    ensures form { (top : ℕ) (p : Program) (region : Region) →
+        Gives top (form_ops p region) (form_of p region) (form_in top p region) }
+    ensures point { (top : ℕ) (region : Region) (z : List ℚ) →
+        Gives top (point_ops region z) (point_of region z) (point_in top region z) }
+    ensures ray { (top : ℕ) (region : Region) (d : List ℚ) →
+        Gives top (ray_ops region d) (direction_of region d) (ray_in top region d) }
 {}

@@ -3,7 +3,6 @@
 
 mod laws;
 
-pub use laws::form_fits;
-pub use laws::rays_are_directions;
-pub use laws::solutions_are_points;
-pub use laws::spread_is_adjoint;
+pub use laws::{
+    calculations_answer, form_fits, rays_are_directions, solutions_are_points, spread_is_adjoint,
+};
