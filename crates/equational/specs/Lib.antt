@@ -1,3 +1,4 @@
 pub mod Standing
 pub mod Equations
 pub mod Form
+pub mod Optimal

@@ -1,2 +1,6 @@
 //! The equational form of a program in a region, and its maps back.
 #![tactic(auto)]
+
+mod leaves;
+
+pub use leaves::refutation_goes_back;

@@ -1,0 +1,9 @@
+pub mod Adjoint
+pub mod Taken
+pub mod Between
+pub mod Takes
+pub mod Carried
+pub mod Matrix
+pub mod Onto
+pub mod Residuals
+pub mod FarkasBack
