@@ -7,3 +7,8 @@ pub mod Matrix
 pub mod Onto
 pub mod Residuals
 pub mod FarkasBack
+pub mod Forms
+pub mod Equations
+pub mod Points
+pub mod Solved
+pub mod Solving

@@ -2,3 +2,4 @@ pub mod Standing
 pub mod Equations
 pub mod Form
 pub mod Optimal
+pub mod Solutions
