@@ -12,3 +12,4 @@ pub mod Equations
 pub mod Points
 pub mod Solved
 pub mod Solving
+pub mod BoundBack

@@ -3,4 +3,4 @@
 
 mod leaves;
 
-pub use leaves::refutation_goes_back;
+pub use leaves::{optimality_goes_back, refutation_goes_back};
