@@ -1,13 +1,14 @@
 -- The two ways between the form's columns and the file's are transposes of each other.
-use Rattle.std.specs.Prelude.{◌≡◌, ℕ, zero, suc, ◌+◌, List, [], ◌∷◌, ◌++◌, length, drop}
+use Rattle.std.specs.Prelude.{◌≡◌, ℕ, zero, suc, ◌+◌, List, [], ◌∷◌, ◌++◌, length, drop, Option, Some, None}
 use Rattle.std.proofs.Common.{arith, sym, ◌∙◌, ap, refl, length-append}
 use Rattle.algebra.proofs.Polynomial.{◌⊕◌, ◌⊝◌, ◌⊗◌, ◌≐◌, lit, minus}
 use Rattle.algebra.proofs.Solver.{ring}
-use Rattle.rational.specs.Rational.{ℚ, zero_ℚ, neg_ℚ, ◌+ℚ◌, ◌*ℚ◌}
+use Rattle.rational.specs.Rational.{ℚ, zero_ℚ, neg_ℚ, ◌+ℚ◌, ◌-ℚ◌, ◌*ℚ◌}
 use Rattle.rational.specs.Sums.{entry}
 use Rattle.rational.specs.Vectors.{dot, zeros}
 use Rattle.rational.proofs.Field.{rationals}
 use Rattle.rational.proofs.Vectors.{dot-nil_right}
+use Rattle.program_law.specs.declared.Row.{Row}
 use Rattle.program_law.specs.Region.{Region}
 use Rattle.equational.specs.Standing.{Standing, Above, Below, Free, standing, parts_at, parts, shift, change_at, change, spread_at, spread}
 

@@ -1,7 +1,7 @@
 -- The equations one by one, and what a solution says of each.
 use Rattle.std.specs.Prelude.{◌≡◌, ℕ, zero, suc, ◌+◌, List, [], ◌∷◌, ◌++◌, map, length, drop, Bool, true, false}
 use Rattle.std.specs.List.{All}
-use Rattle.std.proofs.Common.{sym, ◌∙◌, ap, refl, cond, length-append, drop-drop}
+use Rattle.std.proofs.Common.{arith, sym, ◌∙◌, ap, refl, cond, length-append, drop-drop}
 use Rattle.std.proofs.lemmas.List.Elements.{All-nil, All-cons, All-head, All-tail}
 use Rattle.algebra.proofs.Polynomial.{◌⊕◌, ◌⊗◌, ◌≐◌, lit, minus}
 use Rattle.algebra.proofs.Solver.{ring}
@@ -117,7 +117,7 @@ dot_two (x ∷ y ∷ s) = ring rationals (x ∷ y ∷ []) (λ x y. lit 1 ⊗ x �
 
 -- the left side of s + t = high - low
 pub slacks_side : (n k : ℕ) (z : List ℚ)
-    → dot (zeros n) z +ℚ dot (one_ℚ ∷ one_ℚ ∷ []) (drop k (drop (length (zeros n)) z)) ≡ entry (drop k (drop n z)) 0 +ℚ entry (drop k (drop n z)) 1
+  → dot (zeros n) z +ℚ dot (one_ℚ ∷ one_ℚ ∷ []) (drop k (drop (length (zeros n)) z)) ≡ entry (drop k (drop n z)) 0 +ℚ entry (drop k (drop n z)) 1
 slacks_side n k z =
     ap (λ a. a +ℚ dot (one_ℚ ∷ one_ℚ ∷ []) (drop k (drop (length (zeros n)) z))) (dot-zeros_left n z)
     ∙ ap (λ m. zero_ℚ +ℚ dot (one_ℚ ∷ one_ℚ ∷ []) (drop k (drop m z))) (length-zeros n)

@@ -1,12 +1,12 @@
 -- The objective of the form at z is the program's at h + T z.
-use Rattle.std.specs.Prelude.{◌≡◌, ℕ, zero, suc, pos, List, [], ◌∷◌, ◌++◌, map, length, drop, replicate}
+use Rattle.std.specs.Prelude.{◌≡◌, ℕ, zero, suc, ◌+◌, ◌<◌, pos, List, [], ◌∷◌, ◌++◌, map, length, drop, replicate}
 use Rattle.std.proofs.Common.{arith, sym, ◌∙◌, ap, refl}
-use Rattle.algebra.proofs.Polynomial.{◌⊕◌, ◌⊗◌, ◌≐◌, lit, minus}
+use Rattle.algebra.proofs.Polynomial.{◌⊕◌, ◌⊝◌, ◌⊗◌, ◌≐◌, lit, minus}
 use Rattle.algebra.proofs.Solver.{ring}
 use Rattle.algebra.proofs.Certificate.{prove, scaled, ◌⇐◌}
-use Rattle.rational.specs.Rational.{ℚ, whole, fraction, zero_ℚ, neg_ℚ, ◌+ℚ◌, ◌*ℚ◌}
+use Rattle.rational.specs.Rational.{ℚ, whole, fraction, zero_ℚ, neg_ℚ, ◌+ℚ◌, ◌-ℚ◌, ◌*ℚ◌}
 use Rattle.rational.specs.Sums.{half, entry}
-use Rattle.rational.specs.Vectors.{dot, add_each, zeros, rows_dot, quadratic, row_at, IsSymmetric}
+use Rattle.rational.specs.Vectors.{dot, add_each, zeros, rows_dot, quadratic, row_at, IsSymmetric, HasColumns}
 use Rattle.rational.proofs.Field.{rationals}
 use Rattle.rational.proofs.Order.{ordered_rationals}
 use Rattle.rational.proofs.Bounds.{half-two}
@@ -17,7 +17,7 @@ use Rattle.program_law.specs.Region.{Region}
 use Rattle.program_law.specs.Program.{Program, IsProgram}
 use Rattle.program_law.specs.Columns.{value}
 use Rattle.equational.specs.Standing.{Standing, Above, Below, Free, standing, shift, change, spread_at, spread, spread_rows_at, spread_rows}
-use Rattle.equational.specs.Form.{form_of, slacks, width, padded, point_of}
+use Rattle.equational.specs.Form.{Form, form_of, slacks, width, padded, point_of}
 use Rattle.equational.proofs.Adjoint.{dot-append_left, adjoint, length-change, length-shift}
 
 -- ---- M z, for the parts of the quadratic matrix
@@ -65,7 +65,7 @@ length-map f (x ∷ xs) = ap suc (length-map f xs)
 
 -- Q' z: Q T z spread, and 0 on the slacks
 pub products : (p : Program) (region : Region) (z : List ℚ) → length p.pairs ≡ length region
-    → rows_dot (form_of p region).quadratic z ≡ padded (slacks p region) (spread region (rows_dot p.pairs (change region z)))
+  → rows_dot (form_of p region).quadratic z ≡ padded (slacks p region) (spread region (rows_dot p.pairs (change region z)))
 products p region z h =
     let rows = map (spread region) p.pairs in
     let n = slacks p region in
@@ -77,14 +77,14 @@ products p region z h =
 
 -- w Q' z is T w Q T z
 pub pairing : (p : Program) (region : Region) (w z : List ℚ) → length p.pairs ≡ length region
-    → dot w (rows_dot (form_of p region).quadratic z) ≡ dot (change region w) (rows_dot p.pairs (change region z))
+  → dot w (rows_dot (form_of p region).quadratic z) ≡ dot (change region w) (rows_dot p.pairs (change region z))
 pairing p region w z h =
     let g = rows_dot p.pairs (change region z) in
     ap (dot w) (products p region z h) ∙ dot_comm w (padded (slacks p region) (spread region g)) ∙ dot-padded (slacks p region) (spread region g) w
     ∙ adjoint region g w ∙ dot_comm g (change region w)
 
 pub costing : (p : Program) (region : Region) (z : List ℚ) → length p.costs ≡ length region → length p.pairs ≡ length region
-    → dot (form_of p region).cost z ≡ dot p.costs (change region z) +ℚ dot (rows_dot p.pairs (shift region)) (change region z)
+  → dot (form_of p region).cost z ≡ dot p.costs (change region z) +ℚ dot (rows_dot p.pairs (shift region)) (change region z)
 costing p region z h k =
     let g = rows_dot p.pairs (shift region) in
     dot-padded (slacks p region) (spread region (add_each p.costs g)) z ∙ adjoint region (add_each p.costs g) z
@@ -106,7 +106,7 @@ pub symmetric_pairs : (p : Program) → IsProgram p → IsSymmetric (length p.co
 symmetric_pairs p is =
     let same : (i j : ℕ) → entry (row_at p.pairs i) j ≡ program_vectors.at (program_vectors.row_at p.pairs i) j =
     λ i j. sym (same_entry (row_at p.pairs i) j) ∙ ap (λ r. program_vectors.at r j) (sym (same_row p.pairs i)) in
-    record { rows = is.pairs_height; columns = is.pairs_width; same = λ i j _ _. same i j ∙ is.symmetric i j ∙ sym (same j i) }
+    record { rows = is.pairs_height; columns = is.pairs_width; same = λ i j _ _. same i j ∙ is.symmetric i j ∙ sym (same j i); }
 
 half_is : half ≡ fraction (pos 1) 2
 unfolding half
@@ -120,8 +120,8 @@ completed s a b e ch cd c0 h =
 
 -- the value at h + d
 value_at : (p : Program) (n : ℕ) (h d : List ℚ) → IsSymmetric n p.pairs → length h ≡ length d
-    → half *ℚ dot d (rows_dot p.pairs d) +ℚ (dot p.costs d +ℚ dot (rows_dot p.pairs h) d)
-    +ℚ (p.constant +ℚ dot p.costs h +ℚ half *ℚ dot h (rows_dot p.pairs h)) ≡ value p (add_each h d)
+  → half *ℚ dot d (rows_dot p.pairs d) +ℚ (dot p.costs d +ℚ dot (rows_dot p.pairs h) d)
+  +ℚ (p.constant +ℚ dot p.costs h +ℚ half *ℚ dot h (rows_dot p.pairs h)) ≡ value p (add_each h d)
 value_at p n h d is e =
     let q = p.pairs in
     let qh = rows_dot q h in
@@ -139,7 +139,7 @@ value_at p n h d is e =
     ∙ ap (λ s. s *ℚ dot (rows_dot q x) x +ℚ dot p.costs x +ℚ p.constant) half_is
 
 pub value_back : (p : Program) (region : Region) (z : List ℚ) → IsProgram p → length region ≡ length p.columns
-    → quadratic (form_of p region).quadratic (form_of p region).cost (form_of p region).constant z ≡ value p (point_of region z)
+  → quadratic (form_of p region).quadratic (form_of p region).cost (form_of p region).constant z ≡ value p (point_of region z)
 value_back p region z is e =
     let d = change region z in
     let f = form_of p region in

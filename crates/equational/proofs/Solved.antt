@@ -1,19 +1,19 @@
 -- A solution from a point, and a ray of the form from a direction: the numbers c times the sides leave room for are
 -- what the point, with c = 1, or the direction, with c = 0, leaves of the sides.
-use Rattle.std.specs.Prelude.{◌≡◌, ℕ, zero, suc, ◌+◌, List, [], ◌∷◌, ◌++◌, length, drop, Option, Some, None, IfSome, Bool, true, false}
+use Rattle.std.specs.Prelude.{◌≡◌, ℕ, zero, suc, ◌+◌, List, [], ◌∷◌, ◌++◌, map, length, drop, Option, Some, None, IfSome, Bool, true, false}
 use Rattle.std.specs.List.{All}
 use Rattle.std.proofs.Common.{arith, sym, subst, ◌∙◌, ap, refl, cond, inl, inr, length-append, drop-drop}
 use Rattle.std.proofs.lemmas.List.Elements.{All-nil, All-cons, All-append}
 use Rattle.algebra.proofs.Polynomial.{◌⊕◌, ◌⊝◌, ◌⊗◌, ◌≐◌, ◌≼◌, lit, minus}
 use Rattle.algebra.proofs.Solver.{ring}
-use Rattle.algebra.proofs.Certificate.{prove, given, ◌⇐◌}
+use Rattle.algebra.proofs.Certificate.{prove, given, scaled, ◌⊞◌, ◌⇐◌}
 use Rattle.rational.specs.Rational.{ℚ, zero_ℚ, one_ℚ, neg_ℚ, ◌+ℚ◌, ◌-ℚ◌, ◌*ℚ◌}
 use Rattle.rational.specs.Order.{◌≤ℚ◌, ◌<ℚ◌, same_fields, same_fields_lem}
 use Rattle.rational.specs.Sums.{entry}
-use Rattle.rational.specs.Vectors.{dot, add_each, zeros, unit_vector, rows_dot}
+use Rattle.rational.specs.Vectors.{dot, add_each, scale, zeros, unit_vector, rows_dot}
 use Rattle.rational.proofs.Field.{rationals}
 use Rattle.rational.proofs.Order.{ordered_rationals, le_refl, lt_le, le_antisymm, le_or_lt}
-use Rattle.rational.proofs.OrderLaws.{sub_nonneg}
+use Rattle.rational.proofs.OrderLaws.{sub_nonneg, not-le_of_lt}
 use Rattle.rational.proofs.Vectors.{dot-zeros_left, length-zeros}
 use Rattle.program_law.specs.Tests.{is_negative}
 use Rattle.program_law.proofs.Numbers.{negative_below, below_negative}
@@ -22,7 +22,7 @@ use Rattle.program_law.specs.Region.{Region}
 use Rattle.equational.specs.Standing.{Standing, Above, Below, Free, standing_by, standing, shift_at, shift, parts_at, parts, change_at, change, spread}
 use Rattle.equational.specs.Equations.{Equation, count_by, row_equations_by, row_equations, slacks_at, bound_equation_by, bound_slacks_by, bound_equations, row_slacks, bound_slacks}
 use Rattle.equational.specs.Solutions.{IsNotNegative}
-use Rattle.equational.proofs.Adjoint.{adjoint, length-spread}
+use Rattle.equational.proofs.Adjoint.{adjoint, length-spread, length-change}
 use Rattle.equational.proofs.Equations.{equation, left_side}
 use Rattle.equational.proofs.Points.{unit_side}
 
@@ -175,7 +175,7 @@ less_zero (b ∷ bs) (x ∷ xs) h =
 -- ---- the equations: a is A h, v is A x
 
 row_met : (c : ℚ) (low high : Option ℚ) (k : ℕ) (row : List ℚ) (a v : ℚ) (z rest : List ℚ) → drop k (drop (length row) z) ≡ gaps_by c low high v ++ rest
-    → dot row z ≡ v -ℚ c *ℚ a → IsScaledWithin c low high v → All (IsScaled c z) (row_equations_by low high k row a)
+  → dot row z ≡ v -ℚ c *ℚ a → IsScaledWithin c low high v → All (IsScaled c z) (row_equations_by low high k row a)
 row_met c None None k row a v z rest e d w = All-nil (IsScaled c z)
 row_met c None (Some u) k row a v z rest e d w =
     let f = ap (λ b. b +ℚ dot (one_ℚ ∷ []) (drop k (drop (length row) z))) d ∙ ap (λ s. (v -ℚ c *ℚ a) +ℚ dot (one_ℚ ∷ []) s) e
@@ -189,16 +189,12 @@ row_met c (Some l) (Some u) k row a v z rest e d w = by (same_fields l u) refl e
   where
     alone : Equation
     alone = equation row k [] (l -ℚ a)
-
     first : Equation
     first = equation row k (one_ℚ ∷ []) (u -ℚ a)
-
     second : Equation
     second = equation (zeros (length row)) k (one_ℚ ∷ one_ℚ ∷ []) (u -ℚ l)
-
     own : List ℚ
     own = drop k (drop (length row) z)
-
     by : (t : Bool) → same_fields l u ≡ t → own ≡ cond t [] ((c *ℚ u -ℚ v) ∷ (v -ℚ c *ℚ l) ∷ []) ++ rest → All (IsScaled c z) (cond t (alone ∷ []) (first ∷ second ∷ []))
     by true s e =
         let low : (c *ℚ l) ≤ℚ v = w.low in
@@ -227,26 +223,25 @@ length-gaps c (Some l) (Some u) v = by (same_fields l u)
     by false = refl
 
 pub rows_met : (c : ℚ) (region : Region) (x z : List ℚ) (k : ℕ) (ss : List Row) (rows : List (List ℚ)) (rest : List ℚ) → length rows ≡ length ss
-    → ((row : List ℚ) → dot row (change region z) ≡ dot row x -ℚ c *ℚ dot row (shift region))
-    → drop k (drop (parts region) z) ≡ row_gaps c ss (rows_dot rows x) rest → AllScaledWithin c ss (rows_dot rows x)
-    → All (IsScaled c z) (row_equations region (shift region) k ss rows) × (drop (k + row_slacks ss) (drop (parts region) z) ≡ rest)
+  → ((row : List ℚ) → dot row (change region z) ≡ dot row x -ℚ c *ℚ dot row (shift region))
+  → drop k (drop (parts region) z) ≡ row_gaps c ss (rows_dot rows x) rest → AllScaledWithin c ss (rows_dot rows x)
+  → All (IsScaled c z) (row_equations region (shift region) k ss rows) × (drop (k + row_slacks ss) (drop (parts region) z) ≡ rest)
 rows_met c region x z k [] rows rest f same e w = (All-nil (IsScaled c z), ap (λ m. drop m (drop (parts region) z)) (omega arith) ∙ e)
 rows_met c region x z k (s ∷ ss) [] rest f same e w = absurd (omega arith)
 rows_met c region x z k (s ∷ ss) (row ∷ rows) rest f same e w =
     let own = gaps_by c s.low s.high (dot row x) in
     let others = row_gaps c ss (rows_dot rows x) rest in
     let n = slacks_at s in
-    let next = rows_met c region x z (k + n) ss rows rest (omega arith) same (dropped (drop (parts region) z) own others k n (length-gaps c s.low s.high (dot row x)) e) w.1 in (
-      All-append (IsScaled c z) _ _
-          (row_met c s.low s.high k (spread region row) (dot row (shift region)) (dot row x) z others
-          (ap (λ m. drop k (drop m z)) (length-spread region row) ∙ e) (adjoint region row z ∙ same row) w.0)
-          next.0,
-      ap (λ m. drop m (drop (parts region) z)) (omega arith) ∙ next.1,
-    )
+    let next = rows_met c region x z (k + n) ss rows rest (omega arith) same (dropped (drop (parts region) z) own others k n (length-gaps c s.low s.high (dot row x)) e) w.1 in
+    (All-append (IsScaled c z) _ _
+    (row_met c s.low s.high k (spread region row) (dot row (shift region)) (dot row x) z others
+    (ap (λ m. drop k (drop m z)) (length-spread region row) ∙ e) (adjoint region row z ∙ same row) w.0)
+    next.0,
+    ap (λ m. drop m (drop (parts region) z)) (omega arith) ∙ next.1)
 
 pub columns_met : (c : ℚ) (region : Region) (z : List ℚ) (k j : ℕ) (bs : Region) (xs : List ℚ) → length xs ≡ length bs
-    → ((i : ℕ) → entry (change region z) (j + i) ≡ entry (less c bs xs) i) → drop k (drop (parts region) z) ≡ bound_gaps c bs xs
-    → All (IsScaled c z) (bound_equations region k j bs)
+  → ((i : ℕ) → entry (change region z) (j + i) ≡ entry (less c bs xs) i) → drop k (drop (parts region) z) ≡ bound_gaps c bs xs
+  → All (IsScaled c z) (bound_equations region k j bs)
 columns_met c region z k j [] xs f same e = All-nil (IsScaled c z)
 columns_met c region z k j (b ∷ bs) [] f same e = absurd (omega arith)
 columns_met c region z k j (b ∷ bs) (x ∷ xs) f same e =
@@ -258,7 +253,7 @@ columns_met c region z k j (b ∷ bs) (x ∷ xs) f same e =
     (dropped (drop (parts region) z) (bound_gap_by c b.low b.high x) (bound_gaps c bs xs) k (bound_slacks_by b.low b.high) (long b.low b.high) e))
   where
     by : (low high : Option ℚ) (unit : List ℚ) → dot unit z ≡ x -ℚ c *ℚ shift_at (standing_by low high)
-        → drop k (drop (length unit) z) ≡ bound_gap_by c low high x ++ bound_gaps c bs xs → All (IsScaled c z) (bound_equation_by low high k unit)
+      → drop k (drop (length unit) z) ≡ bound_gap_by c low high x ++ bound_gaps c bs xs → All (IsScaled c z) (bound_equation_by low high k unit)
     by None None unit d e = All-nil (IsScaled c z)
     by None (Some u) unit d e = All-nil (IsScaled c z)
     by (Some l) None unit d e = All-nil (IsScaled c z)
@@ -266,7 +261,6 @@ columns_met c region z k j (b ∷ bs) (x ∷ xs) f same e =
         let f = ap (λ b. b +ℚ dot (one_ℚ ∷ []) (drop k (drop (length unit) z))) d ∙ ap (λ s. (x -ℚ c *ℚ l) +ℚ dot (one_ℚ ∷ []) s) e
         ∙ ring rationals (c ∷ u ∷ l ∷ x ∷ []) (λ c u l x. (x ⊝ c ⊗ l) ⊕ (lit 1 ⊗ (c ⊗ u ⊝ x) ⊕ lit 0) ≐ c ⊗ (u ⊝ l)) refl in
         All-cons (IsScaled c z) (equation unit k (one_ℚ ∷ []) (u -ℚ l)) [] f (All-nil (IsScaled c z))
-
     long : (low high : Option ℚ) → length (bound_gap_by c low high x) ≡ bound_slacks_by low high
     long None None = refl
     long None (Some u) = refl

@@ -1,12 +1,12 @@
 -- Each relaxed point of the region comes from a solution of the form.
-use Rattle.std.specs.Prelude.{◌≡◌, ℕ, suc, ◌+◌, List, [], ◌∷◌, length, drop, Option, Some, None, IfSome}
+use Rattle.std.specs.Prelude.{◌≡◌, ℕ, zero, suc, ◌+◌, List, [], ◌∷◌, ◌++◌, map, length, drop, Option, Some, None, IfSome}
 use Rattle.std.specs.List.{All}
 use Rattle.std.proofs.Common.{arith, sym, subst, ◌∙◌, ap, refl, length-append}
 use Rattle.std.proofs.lemmas.List.{length-map}
 use Rattle.std.proofs.lemmas.List.Elements.{All-append, All-weaker}
 use Rattle.algebra.proofs.Polynomial.{◌⊗◌, ◌≐◌, lit}
 use Rattle.algebra.proofs.Solver.{ring}
-use Rattle.rational.specs.Rational.{ℚ, one_ℚ, ◌-ℚ◌, ◌*ℚ◌}
+use Rattle.rational.specs.Rational.{ℚ, zero_ℚ, one_ℚ, ◌+ℚ◌, ◌-ℚ◌, ◌*ℚ◌}
 use Rattle.rational.specs.Order.{◌≤ℚ◌}
 use Rattle.rational.specs.Sums.{entry}
 use Rattle.rational.specs.Vectors.{dot, add_each, zeros, rows_dot}
@@ -15,14 +15,15 @@ use Rattle.rational.proofs.Vectors.{length-zeros, length-rows_dot}
 use Rattle.program_law.specs.declared.Row.{Row}
 use Rattle.program_law.specs.Region.{Region}
 use Rattle.program_law.specs.Program.{Program, IsProgram, sides}
+use Rattle.program_law.specs.Point.{IsWithin}
 use Rattle.program_law.specs.Columns.{AllWithin, IsRelaxedPoint}
 use Rattle.equational.specs.Standing.{shift, parts, change, spread}
-use Rattle.equational.specs.Equations.{row_equations, bound_equations, row_slacks}
+use Rattle.equational.specs.Equations.{Equation, row_equations, bound_equations, row_slacks, bound_slacks}
 use Rattle.equational.specs.Form.{equations, slacks, width, form_of, point_of}
 use Rattle.equational.specs.Solutions.{IsNotNegative, IsSolution}
 use Rattle.equational.proofs.Adjoint.{length-spread}
-use Rattle.equational.proofs.Equations.{IsKept, kept_all}
-use Rattle.equational.proofs.Solved.{parts_of, row_gaps, bound_gaps, AllScaledWithin, IsScaled, less, change-parts_of, drop-parts_of, length-parts_of, dot-less, less_one, rows_met, columns_met, length-row_gaps, length-bound_gaps, parts_nonneg, row_gaps_nonneg, bound_gaps_nonneg}
+use Rattle.equational.proofs.Equations.{left_side, IsKept, kept_all}
+use Rattle.equational.proofs.Solved.{parts_of, row_gaps, bound_gaps, IsScaledWithin, AllScaledWithin, IsScaled, less, change-parts_of, drop-parts_of, length-parts_of, dot-less, less_one, rows_met, columns_met, length-row_gaps, length-bound_gaps, parts_nonneg, row_gaps_nonneg, bound_gaps_nonneg}
 
 -- what stands in the form for x, c times the sides
 abbrev pub solution_by : ℚ → Program → Region → List ℚ → List ℚ
@@ -44,13 +45,13 @@ length-solution c p region x is e =
     omega arith
 
 pub nonneg_solution : (c : ℚ) (p : Program) (region : Region) (x : List ℚ) → AllScaledWithin c (sides p) (rows_dot p.entries x) → AllScaledWithin c region x
-    → All IsNotNegative (solution_by c p region x)
+  → All IsNotNegative (solution_by c p region x)
 nonneg_solution c p region x v w =
     parts_nonneg c region x (row_gaps c (sides p) (rows_dot p.entries x) (bound_gaps c region x)) w
     (row_gaps_nonneg c (sides p) (rows_dot p.entries x) (bound_gaps c region x) v (bound_gaps_nonneg c region x w))
 
 pub scaled_solution : (c : ℚ) (p : Program) (region : Region) (x : List ℚ) → IsProgram p → length x ≡ length region
-    → AllScaledWithin c (sides p) (rows_dot p.entries x) → All (IsScaled c (solution_by c p region x)) (equations p region)
+  → AllScaledWithin c (sides p) (rows_dot p.entries x) → All (IsScaled c (solution_by c p region x)) (equations p region)
 scaled_solution c p region x is e v =
     let z = solution_by c p region x in
     let lasts = bound_gaps c region x in
@@ -91,18 +92,17 @@ pub solution_of : Program → Region → List ℚ → List ℚ
 solution_of p region x = solution_by one_ℚ p region x
 
 pub solved : (p : Program) (region : Region) (x : List ℚ) → IsProgram p → IsRelaxedPoint p region x
-    → IsSolution (form_of p region) (solution_of p region x) × (point_of region (solution_of p region x) ≡ x)
+  → IsSolution (form_of p region) (solution_of p region x) × (point_of region (solution_of p region x) ≡ x)
 unfolding solution_of
 solved p region x is w =
     let e = within_length region x w.columns in
     let z = solution_by one_ℚ p region x in
     let v = all_within (sides p) (rows_dot p.entries x) w.rows in
     let kept : All (IsKept z) (equations p region) =
-    All-weaker (IsScaled one_ℚ z) (IsKept z) (λ e h. h ∙ one_times e.right) (equations p region) (scaled_solution one_ℚ p region x is e v) in (
-      record {
-        width = length-solution one_ℚ p region x is e ∙ sym (length-cost p region);
-        equal = kept_all (slacks p region) (equations p region) z kept;
-        not_negative = nonneg_solution one_ℚ p region x v (all_within region x w.columns);
-      },
-      ap (add_each (shift region)) (change-parts_of one_ℚ region x (row_gaps one_ℚ (sides p) (rows_dot p.entries x) (bound_gaps one_ℚ region x)) e) ∙ less_one region x e,
-    )
+    All-weaker (IsScaled one_ℚ z) (IsKept z) (λ e h. h ∙ one_times e.right) (equations p region) (scaled_solution one_ℚ p region x is e v) in
+    (record {
+      width = length-solution one_ℚ p region x is e ∙ sym (length-cost p region);
+      equal = kept_all (slacks p region) (equations p region) z kept;
+      not_negative = nonneg_solution one_ℚ p region x v (all_within region x w.columns);
+    },
+    ap (add_each (shift region)) (change-parts_of one_ℚ region x (row_gaps one_ℚ (sides p) (rows_dot p.entries x) (bound_gaps one_ℚ region x)) e) ∙ less_one region x e)

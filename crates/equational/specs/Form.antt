@@ -1,5 +1,5 @@
 -- The equational form of a program in a region that isn't crossed: minimise ½ z^T Q z + c z + c0 where M z = r and z is not below 0.
-use Rattle.std.specs.Prelude.{ℕ, ◌+◌, List, [], ◌∷◌, ◌++◌, map, drop, replicate, if◌then◌else◌}
+use Rattle.std.specs.Prelude.{ℕ, ◌+◌, List, [], ◌∷◌, ◌++◌, map, length, take, drop, replicate, if◌then◌else◌}
 use Rattle.rational.specs.Rational.{ℚ, neg_ℚ, ◌+ℚ◌, ◌*ℚ◌}
 use Rattle.rational.specs.Sums.{half, entry}
 use Rattle.rational.specs.Vectors.{dot, rows_dot, add_each, zeros}

@@ -2,6 +2,7 @@
 use Rattle.std.specs.Prelude.{ℕ, ◌+◌, List, [], ◌∷◌, ◌++◌, map, drop, Option, Some, None}
 use Rattle.rational.specs.Rational.{ℚ, zero_ℚ, neg_ℚ, ◌-ℚ◌}
 use Rattle.rational.specs.Sums.{entry}
+use Rattle.rational.specs.Vectors.{scale}
 use Rattle.program_law.specs.declared.Row.{Row}
 use Rattle.program_law.specs.Region.{Region}
 
