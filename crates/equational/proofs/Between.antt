@@ -79,12 +79,6 @@ dot-from p ps zero (y ∷ x) = refl
 dot-from p ps (suc j) [] = ring rationals (p ∷ []) (λ p. lit 0 ≐ p ⊗ lit 0 ⊕ lit 0) refl ∙ ap (λ t. p *ℚ zero_ℚ +ℚ t) (sym (dot-nil_right ps))
 dot-from p ps (suc j) (y ∷ x) = dot-from p ps j x
 
-pub dot-negated : (u v : List ℚ) → dot (map neg_ℚ u) v ≡ neg_ℚ (dot u v)
-dot-negated [] v = ring rationals [] (lit 0 ≐ minus (lit 0)) refl
-dot-negated (x ∷ u) [] = ring rationals [] (lit 0 ≐ minus (lit 0)) refl
-dot-negated (x ∷ u) (y ∷ v) =
-    ap (λ t. neg_ℚ x *ℚ y +ℚ t) (dot-negated u v) ∙ ring rationals (x ∷ y ∷ dot u v ∷ []) (λ x y t. minus x ⊗ y ⊕ minus t ≐ minus (x ⊗ y ⊕ t)) refl
-
 pub negated_is_scaled : (u : List ℚ) → map neg_ℚ u ≡ scale (neg_ℚ one_ℚ) u
 negated_is_scaled [] = refl
 negated_is_scaled (x ∷ u) =

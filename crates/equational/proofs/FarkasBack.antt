@@ -20,7 +20,9 @@ use Rattle.equational.specs.Standing.{Standing, Above, Below, Free, standing, sp
 use Rattle.equational.specs.Equations.{right_of}
 use Rattle.equational.specs.Form.{equations, slacks, width, form_of, multipliers_of}
 use Rattle.equational.specs.Optimal.{IsRefutation}
-use Rattle.equational.proofs.Between.{AllAtMost, negated_is_scaled, dot-negated, length-negated}
+use Rattle.equational.proofs.Between.{AllAtMost, negated_is_scaled, length-negated}
+use Rattle.equational.proofs.Equations.{nonneg_entry}
+use Rattle.equational.proofs.Forms.{dot-map_neg}
 use Rattle.equational.proofs.Onto.{has_columns, onto}
 use Rattle.equational.proofs.Residuals.{length-residual, with_no_gradient}
 
@@ -45,11 +47,6 @@ zero_spread : (region : Region) → AllZero (spread region (zeros (length region
 zero_spread [] j = refl
 zero_spread (b ∷ bs) j = zero-append (spread_at (standing b) zero_ℚ) (spread bs (zeros (length bs))) (zero_at (standing b)) (zero_spread bs) j
 
-not_below : (u : List ℚ) → All (λ x. zero_ℚ ≤ℚ x) u → (j : ℕ) → zero_ℚ ≤ℚ entry u j
-not_below [] h j = le_refl zero_ℚ
-not_below (x ∷ u) h zero = All-head (λ x. zero_ℚ ≤ℚ x) x u h
-not_below (x ∷ u) h (suc j) = not_below u (All-tail (λ x. zero_ℚ ≤ℚ x) x u h) j
-
 pub farkas_back : (p : Program) (region : Region) (y : List ℚ) → IsProgram p → length region ≡ length p.columns → (IsCrossedRegion region → ⊥)
     → IsRefutation (width p region) (form_of p region) y → IsGoodFarkas p region (multipliers_of p region (map neg_ℚ y))
 farkas_back p region y good wide uncrossed refutes =
@@ -69,12 +66,12 @@ farkas_back p region y good wide uncrossed refutes =
     λ j. prove ordered_rationals
     (entry (combine n (map neg_ℚ y) f.matrix) j ∷ entry (combine n y f.matrix) j ∷ entry (spread region (zeros (length region)) ++ zeros (slacks p region)) j ∷ [])
     (λ a b c. a ≼ c ⇐ given (lit 0 ≼ b) ⊞ given (a ≐ minus (lit 1) ⊗ b) ⊞ scaled (minus (lit 1)) c (lit 0)) refl
-    (not_below (combine n y f.matrix) refutes.not_negative j) (negated j) (nothing j) in
+    (nonneg_entry (combine n y f.matrix) j refutes.not_negative) (negated j) (nothing j) in
     let all = onto p region (map neg_ℚ y) good full (zeros (length region)) s (length-zeros (length region)) (length-residual p no_gradient region back)
     (λ x h. with_no_gradient p region back x h) uncrossed below in
     record {
       has_sides = record { rows = all.0; columns = all.1 };
       above = prove ordered_rationals (dot (map neg_ℚ y) f.right ∷ dot y f.right ∷ dot (zeros (length region)) (shift region) ∷ total p no_gradient region back ∷ [])
           (λ a b c t. lit 0 ≺ t ⇐ given (b ≺ lit 0) ⊞ given (a ⊕ c ≼ t) ⊞ scaled (minus (lit 1)) a (minus b) ⊞ scaled (minus (lit 1)) c (lit 0)) refl
-          refutes.below all.2 (dot-negated y f.right) (dot-zeros_left (length region) (shift region));
+          refutes.below all.2 (dot-map_neg y f.right) (dot-zeros_left (length region) (shift region));
     }

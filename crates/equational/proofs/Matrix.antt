@@ -16,7 +16,8 @@ use Rattle.equational.specs.Standing.{spread, parts}
 use Rattle.equational.specs.Equations.{Equation, count_by, row_equations_by, slacks_at, row_slacks, row_equations, bound_equation_by, bound_slacks_by, bound_slacks, bound_equations, entries_in, is_negated, matrix_row, right_of}
 use Rattle.equational.specs.Form.{unsigned, unsigned_by}
 use Rattle.equational.proofs.Adjoint.{dot-append_left, length-spread}
-use Rattle.equational.proofs.Between.{dot-negated, length-negated}
+use Rattle.equational.proofs.Between.{length-negated}
+use Rattle.equational.proofs.Forms.{dot-map_neg}
 use Rattle.equational.proofs.Carried.{left_at, right_side}
 
 -- an equation with n entries on the columns, whose own slacks are among so many
@@ -51,7 +52,7 @@ row_at_point n slacks e y x z f h = by (is_negated e)
 
     by : (b : Bool) → y *ℚ dot (cond b (map neg_ℚ (entries_in slacks e)) (entries_in slacks e)) (x ++ z) ≡ cond b (neg_ℚ y) y *ℚ t
     by true =
-        ap (λ s. y *ℚ s) (dot-negated (entries_in slacks e) (x ++ z) ∙ ap neg_ℚ (entries_at n slacks e x z f h))
+        ap (λ s. y *ℚ s) (dot-map_neg (entries_in slacks e) (x ++ z) ∙ ap neg_ℚ (entries_at n slacks e x z f h))
         ∙ ring rationals (y ∷ t ∷ []) (λ y t. y ⊗ minus t ≐ minus y ⊗ t) refl
     by false = ap (λ s. y *ℚ s) (entries_at n slacks e x z f h)
 

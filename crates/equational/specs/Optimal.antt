@@ -5,11 +5,12 @@ use Rattle.rational.specs.Order.{◌≤ℚ◌, ◌<ℚ◌}
 use Rattle.rational.specs.Sums.{entry}
 use Rattle.rational.specs.Vectors.{dot, combine, gradient}
 use Rattle.equational.specs.Form.{Form}
+use Rattle.equational.specs.Solutions.{IsNotNegative}
 
 -- there is no solution: y^T M is not below 0, and y · r is
 pub record IsRefutation (n : ℕ) (f : Form) (y : List ℚ) : Type 0 where
   pub size : length y ≡ length f.right
-  pub not_negative : All (λ x. zero_ℚ ≤ℚ x) (combine n y f.matrix)
+  pub not_negative : All IsNotNegative (combine n y f.matrix)
   pub below : dot y f.right <ℚ zero_ℚ
 
 -- z is optimal: y^T M is at most the gradient Q z + c, and equal to it where z isn't 0
