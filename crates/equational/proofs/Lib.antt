@@ -13,3 +13,6 @@ pub mod Points
 pub mod Solved
 pub mod Solving
 pub mod BoundBack
+pub mod Rays
+pub mod Shapes
+mod Worked

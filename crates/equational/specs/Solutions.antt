@@ -1,5 +1,5 @@
 -- What a form, its solutions and its rays are.
-use Rattle.std.specs.Prelude.{◌≡◌, ℕ, List, length}
+use Rattle.std.specs.Prelude.{◌≡◌, ℕ, List, [], ◌∷◌, length, IsSome}
 use Rattle.std.specs.List.{All}
 use Rattle.rational.specs.Rational.{ℚ, zero_ℚ, one_ℚ, neg_ℚ}
 use Rattle.rational.specs.Order.{◌≤ℚ◌}
@@ -42,3 +42,10 @@ pub record IsRegionRay (p : Program) (region : Region) (d : List ℚ) : Type 0 w
   pub columns : AllKeepSides region d
   pub flat : AreZero (times p.pairs d)
   pub falls : dot p.costs d ≡ neg_ℚ one_ℚ
+
+-- as many columns, and each bound that the first region has, the second has too, whatever its number
+abbrev pub HasItsBounds : Region → Region → Type 0
+HasItsBounds [] [] = Unit {0}
+HasItsBounds [] (b ∷ bs) = ⊥
+HasItsBounds (a ∷ more) [] = ⊥
+HasItsBounds (a ∷ more) (b ∷ bs) = (IsSome a.low → IsSome b.low) × (IsSome a.high → IsSome b.high) × HasItsBounds more bs
