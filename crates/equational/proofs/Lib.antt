@@ -16,3 +16,4 @@ pub mod BoundBack
 pub mod Rays
 pub mod Shapes
 mod Worked
+mod WorkedBack
