@@ -4,9 +4,5 @@
 mod laws;
 mod leaves;
 
-pub use laws::form_fits;
-pub use laws::rays_are_directions;
-pub use laws::solutions_are_points;
-pub use laws::spread_is_adjoint;
-pub use leaves::optimality_goes_back;
-pub use leaves::refutation_goes_back;
+pub use laws::{form_fits, rays_are_directions, solutions_are_points, spread_is_adjoint};
+pub use leaves::{optimality_goes_back, refutation_goes_back};
