@@ -32,18 +32,24 @@ width p region = parts region + slacks p region
 abbrev pub padded : ℕ → List ℚ → List ℚ
 padded n row = row ++ zeros n
 
-abbrev pub form_of : Program → Region → Form
-form_of p region =
+-- the form with these equations, costs of the file's columns in the change from h, and constant
+abbrev pub form_by : Program → Region → List Equation → List ℚ → ℚ → Form
+form_by p region es costs constant =
     record {
-      matrix = map (matrix_row (slacks p region)) (equations p region);
-      right = map right_of (equations p region);
+      matrix = map (matrix_row (slacks p region)) es;
+      right = map right_of es;
       quadratic =
           map (padded (slacks p region)) (spread_rows region (map (spread region) p.pairs))
           ++ replicate (slacks p region) (zeros (width p region));
-      cost = padded (slacks p region) (spread region (add_each p.costs (rows_dot p.pairs (shift region))));
-      constant =
-          p.constant +ℚ dot p.costs (shift region) +ℚ half *ℚ dot (shift region) (rows_dot p.pairs (shift region));
+      cost = padded (slacks p region) (spread region costs);
+      constant = constant;
     }
+
+-- the costs are c + Q h, and the constant c0 + c h + ½ h Q h
+abbrev pub form_of : Program → Region → Form
+form_of p region =
+    form_by p region (equations p region) (add_each p.costs (rows_dot p.pairs (shift region)))
+    (p.constant +ℚ dot p.costs (shift region) +ℚ half *ℚ dot (shift region) (rows_dot p.pairs (shift region)))
 
 -- ---- back to the file's columns and rows
 

@@ -3,3 +3,4 @@ pub mod Equations
 pub mod Form
 pub mod Optimal
 pub mod Solutions
+pub mod Calculation
