@@ -9,6 +9,7 @@ pub mod Residuals
 pub mod FarkasBack
 pub mod Forms
 pub mod Equations
+pub mod Scaled
 pub mod Points
 pub mod Solved
 pub mod Solving

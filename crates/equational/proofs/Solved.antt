@@ -1,6 +1,6 @@
 -- A solution from a point, and a ray of the form from a direction: the numbers c times the sides leave room for are
 -- what the point, with c = 1, or the direction, with c = 0, leaves of the sides.
-use Rattle.std.specs.Prelude.{◌≡◌, ℕ, zero, suc, ◌+◌, List, [], ◌∷◌, ◌++◌, length, drop, Option, Some, None, IfSome, Bool, true, false}
+use Rattle.std.specs.Prelude.{◌≡◌, ℕ, zero, suc, ◌+◌, List, [], ◌∷◌, ◌++◌, length, drop, Option, Some, None, Bool, true, false}
 use Rattle.std.specs.List.{All}
 use Rattle.std.proofs.Common.{arith, sym, subst, ◌∙◌, ap, refl, cond, inl, inr, length-append, drop-drop}
 use Rattle.std.proofs.lemmas.List.Elements.{All-nil, All-cons, All-append}
@@ -23,8 +23,8 @@ use Rattle.equational.specs.Standing.{Standing, Above, Below, Free, standing_by,
 use Rattle.equational.specs.Equations.{Equation, count_by, row_equations_by, row_equations, slacks_at, bound_equation_by, bound_slacks_by, bound_equations, row_slacks, bound_slacks}
 use Rattle.equational.specs.Solutions.{IsNotNegative}
 use Rattle.equational.proofs.Adjoint.{adjoint, length-spread}
-use Rattle.equational.proofs.Equations.{equation, left_side}
-use Rattle.equational.proofs.Points.{unit_side}
+use Rattle.equational.proofs.Equations.{equation}
+use Rattle.equational.proofs.Scaled.{IsScaled, IsScaledWithin, AllScaledWithin, unit_side}
 
 -- ---- the numbers
 
@@ -61,20 +61,6 @@ abbrev pub bound_gaps : ℚ → Region → List ℚ → List ℚ
 bound_gaps c [] xs = []
 bound_gaps c (b ∷ bs) [] = []
 bound_gaps c (b ∷ bs) (x ∷ xs) = bound_gap_by c b.low b.high x ++ bound_gaps c bs xs
-
--- within c times the sides
-pub record IsScaledWithin (c : ℚ) (from to : Option ℚ) (v : ℚ) : Type 0 where
-  pub low : IfSome from (λ l. (c *ℚ l) ≤ℚ v)
-  pub high : IfSome to (λ u. v ≤ℚ (c *ℚ u))
-
-abbrev pub AllScaledWithin : ℚ → List Row → List ℚ → Type 0
-AllScaledWithin c [] [] = Unit {0}
-AllScaledWithin c [] (v ∷ vs) = ⊥
-AllScaledWithin c (s ∷ ss) [] = ⊥
-AllScaledWithin c (s ∷ ss) (v ∷ vs) = IsScaledWithin c s.low s.high v × AllScaledWithin c ss vs
-
-abbrev pub IsScaled : ℚ → List ℚ → Equation → Type 0
-IsScaled c z e = left_side z e ≡ c *ℚ e.right
 
 -- ---- lists
 

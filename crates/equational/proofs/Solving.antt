@@ -1,16 +1,11 @@
 -- Each relaxed point of the region comes from a solution of the form.
-use Rattle.std.specs.Prelude.{◌≡◌, ℕ, suc, ◌+◌, List, [], ◌∷◌, length, drop, Option, Some, None, IfSome}
+use Rattle.std.specs.Prelude.{◌≡◌, suc, ◌+◌, List, [], ◌∷◌, length, drop}
 use Rattle.std.specs.List.{All}
-use Rattle.std.proofs.Common.{arith, sym, subst, ◌∙◌, ap, refl, length-append}
-use Rattle.std.proofs.lemmas.List.{length-map}
+use Rattle.std.proofs.Common.{arith, sym, ◌∙◌, ap, refl, length-append}
 use Rattle.std.proofs.lemmas.List.Elements.{All-append, All-weaker}
-use Rattle.algebra.proofs.Polynomial.{◌⊗◌, ◌≐◌, lit}
-use Rattle.algebra.proofs.Solver.{ring}
 use Rattle.rational.specs.Rational.{ℚ, one_ℚ, ◌-ℚ◌, ◌*ℚ◌}
-use Rattle.rational.specs.Order.{◌≤ℚ◌}
 use Rattle.rational.specs.Sums.{entry}
 use Rattle.rational.specs.Vectors.{dot, add_each, zeros, rows_dot}
-use Rattle.rational.proofs.Field.{rationals}
 use Rattle.rational.proofs.Vectors.{length-zeros, length-rows_dot}
 use Rattle.program_law.specs.declared.Row.{Row}
 use Rattle.program_law.specs.Region.{Region}
@@ -22,14 +17,13 @@ use Rattle.equational.specs.Form.{equations, slacks, width, form_of, point_of}
 use Rattle.equational.specs.Solutions.{IsNotNegative, IsSolution}
 use Rattle.equational.proofs.Adjoint.{length-spread}
 use Rattle.equational.proofs.Equations.{IsKept, kept_all}
-use Rattle.equational.proofs.Solved.{parts_of, row_gaps, bound_gaps, AllScaledWithin, IsScaled, less, change-parts_of, drop-parts_of, length-parts_of, dot-less, less_one, rows_met, columns_met, length-row_gaps, length-bound_gaps, parts_nonneg, row_gaps_nonneg, bound_gaps_nonneg}
+use Rattle.equational.proofs.Points.{long_rows}
+use Rattle.equational.proofs.Scaled.{IsScaled, AllScaledWithin, one_times, scaled_within}
+use Rattle.equational.proofs.Solved.{parts_of, row_gaps, bound_gaps, less, change-parts_of, drop-parts_of, length-parts_of, dot-less, less_one, rows_met, columns_met, length-row_gaps, length-bound_gaps, parts_nonneg, row_gaps_nonneg, bound_gaps_nonneg}
 
 -- what stands in the form for x, c times the sides
 abbrev pub solution_by : ℚ → Program → Region → List ℚ → List ℚ
 solution_by c p region x = parts_of c region x (row_gaps c (sides p) (rows_dot p.entries x) (bound_gaps c region x))
-
-pub long_rows : (p : Program) → IsProgram p → length p.entries ≡ length (sides p)
-long_rows p is = is.height ∙ sym (length-map p.rows (λ (r : List ℕ × Row). r.1))
 
 pub length-cost : (p : Program) (region : Region) → length (form_of p region).cost ≡ width p region
 length-cost p region =
@@ -64,23 +58,6 @@ scaled_solution c p region x is e v =
     (λ i. ap (entry (change region z)) (omega arith) ∙ ap (λ d. entry d i) changed)
     (ap (λ m. drop m (drop (parts region) z)) (omega arith) ∙ rows.1))
 
-one_times : (x : ℚ) → one_ℚ *ℚ x ≡ x
-one_times x = ring rationals (x ∷ []) (λ x. lit 1 ⊗ x ≐ x) refl
-
-within_low : (o : Option ℚ) (x : ℚ) → IfSome o (λ l. l ≤ℚ x) → IfSome o (λ l. (one_ℚ *ℚ l) ≤ℚ x)
-within_low None x h = tt
-within_low (Some l) x h = subst (λ m. m ≤ℚ x) (sym (one_times l)) h
-
-within_high : (o : Option ℚ) (x : ℚ) → IfSome o (λ u. x ≤ℚ u) → IfSome o (λ u. x ≤ℚ (one_ℚ *ℚ u))
-within_high None x h = tt
-within_high (Some u) x h = subst (λ m. x ≤ℚ m) (sym (one_times u)) h
-
-all_within : (ss : List Row) (vs : List ℚ) → AllWithin ss vs → AllScaledWithin one_ℚ ss vs
-all_within [] [] w = tt
-all_within [] (v ∷ vs) w = w
-all_within (s ∷ ss) [] w = w
-all_within (s ∷ ss) (v ∷ vs) w = (record { low = within_low s.low v w.0.low; high = within_high s.high v w.0.high }, all_within ss vs w.1)
-
 pub within_length : (ss : List Row) (vs : List ℚ) → AllWithin ss vs → length vs ≡ length ss
 within_length [] [] w = refl
 within_length [] (v ∷ vs) w = absurd w
@@ -96,13 +73,13 @@ unfolding solution_of
 solved p region x is w =
     let e = within_length region x w.columns in
     let z = solution_by one_ℚ p region x in
-    let v = all_within (sides p) (rows_dot p.entries x) w.rows in
+    let v = scaled_within (sides p) (rows_dot p.entries x) w.rows in
     let kept : All (IsKept z) (equations p region) =
     All-weaker (IsScaled one_ℚ z) (IsKept z) (λ e h. h ∙ one_times e.right) (equations p region) (scaled_solution one_ℚ p region x is e v) in (
       record {
         width = length-solution one_ℚ p region x is e ∙ sym (length-cost p region);
         equal = kept_all (slacks p region) (equations p region) z kept;
-        not_negative = nonneg_solution one_ℚ p region x v (all_within region x w.columns);
+        not_negative = nonneg_solution one_ℚ p region x v (scaled_within region x w.columns);
       },
       ap (add_each (shift region)) (change-parts_of one_ℚ region x (row_gaps one_ℚ (sides p) (rows_dot p.entries x) (bound_gaps one_ℚ region x)) e) ∙ less_one region x e,
     )
