@@ -3,10 +3,10 @@ use Rattle.std.specs.Prelude.{◌≡◌, ℕ, zero, suc, ◌+◌, List, [], ◌�
 use Rattle.std.specs.List.{All}
 use Rattle.std.proofs.Common.{arith, sym, subst, ◌∙◌, ap, refl}
 use Rattle.std.proofs.lemmas.List.Elements.{All-weaker}
-use Rattle.algebra.proofs.Polynomial.{◌⊕◌, ◌⊗◌, ◌≐◌, lit, minus}
+use Rattle.algebra.proofs.Polynomial.{◌⊕◌, ◌⊗◌, ◌≐◌, lit, minus, ◌≺◌}
 use Rattle.algebra.proofs.Solver.{ring}
-use Rattle.rational.specs.Rational.{ℚ, zero_ℚ, ◌+ℚ◌, ◌*ℚ◌}
-use Rattle.rational.specs.Order.{◌≤ℚ◌}
+use Rattle.rational.specs.Rational.{ℚ, zero_ℚ, ◌+ℚ◌, ◌*ℚ◌, one_ℚ, neg_ℚ}
+use Rattle.rational.specs.Order.{◌≤ℚ◌, ◌<ℚ◌}
 use Rattle.rational.specs.Sums.{entry}
 use Rattle.rational.specs.Vectors.{dot, zeros, rows_dot}
 use Rattle.rational.proofs.Field.{rationals}
@@ -14,8 +14,10 @@ use Rattle.rational.proofs.Vectors.{dot_comm, dot-zeros_right, length-zeros, len
 use Rattle.rational.proofs.Forms.{form_comm}
 use Rattle.program_law.specs.declared.Row.{Row}
 use Rattle.program_law.specs.Region.{Region}
-use Rattle.program_law.specs.Program.{Program, IsProgram, sides}
-use Rattle.certificate_law.specs.Ray.{AllKeepSides, AreZero}
+use Rattle.program_law.specs.Program.{Program, IsProgram, sides, bounds}
+use Rattle.certificate_law.specs.Ray.{AllKeepSides, AreZero, IsRay}
+use Rattle.algebra.proofs.Certificate.{prove, weight, ◌⇐◌}
+use Rattle.rational.proofs.Order.{ordered_rationals}
 use Rattle.equational.specs.Standing.{Standing, Above, Below, Free, standing, shift, parts_at, parts, change, spread_at, spread}
 use Rattle.equational.specs.Equations.{row_equations, bound_equations, row_slacks}
 use Rattle.equational.specs.Form.{equations, slacks, width, form_of, padded, direction_of}
@@ -159,3 +161,11 @@ columns_still (a ∷ more) (b ∷ bs) (x ∷ d) h w =
 
 pub fewer_bounds : (p : Program) (region other : Region) (d : List ℚ) → HasItsBounds region other → IsRegionRay p other d → IsRegionRay p region d
 fewer_bounds p region other d h r = record { rows = r.rows; columns = columns_still region other d h r.columns; flat = r.flat; falls = r.falls }
+
+minus_one : neg_ℚ one_ℚ <ℚ zero_ℚ
+minus_one = prove ordered_rationals [] (minus (lit 1) ≺ lit 0 ⇐ weight 1) refl
+
+pub is_ray : (p : Program) (region : Region) (d : List ℚ) → HasItsBounds (bounds p) region → IsRegionRay p region d → IsRay p d
+is_ray p region d h r =
+    let s = fewer_bounds p (bounds p) region d h r in
+    record { rows = s.rows; columns = s.columns; flat = s.flat; falls = subst (λ x. x <ℚ zero_ℚ) (sym s.falls) minus_one }

@@ -4,8 +4,9 @@ ghost use Rattle.std.specs.Prelude.{◌≡◌, ℕ, List, length};
 ghost use Rattle.rational.specs.Rational.{ℚ};
 ghost use Rattle.rational.specs.Vectors.{dot, zeros, quadratic, IsSymmetric, IsSemidefinite};
 ghost use Rattle.program_law.specs.Region.{Region};
-ghost use Rattle.program_law.specs.Program.{Program, IsProgram};
+ghost use Rattle.program_law.specs.Program.{Program, IsProgram, bounds};
 ghost use Rattle.program_law.specs.Columns.{IsRelaxedPoint, value};
+ghost use Rattle.certificate_law.specs.Ray.{IsRay};
 ghost use Rattle.equational.specs.Standing.{parts, spread, change};
 ghost use Rattle.equational.specs.Form.{width, form_of, point_of, direction_of};
 ghost use Rattle.equational.specs.Calculation.{Gives, form_in, form_ops, point_in, point_ops, ray_in, ray_ops};
@@ -41,7 +42,8 @@ pub fn solutions_are_points()
 {}
 
 /// Each ray of the form gives a direction of the region with `Q d = 0` and `c · d = -1`, and each such direction comes
-/// from a ray. A direction of a region is one of each region with no other bounds than its own, whatever their numbers.
+/// from a ray. A direction of a region is one of each region with no other bounds than its own, whatever their numbers;
+/// so where the region has all bounds of the program, it is a ray of the program.
 pub fn rays_are_directions()
     ensures direction { (p : Program) (region : Region) (d : List ℚ) → IsProgram p → length region ≡ length p.columns →
         IsFormRay (form_of p region) d → IsRegionRay p region (direction_of region d) }
@@ -49,6 +51,8 @@ pub fn rays_are_directions()
         IsRegionRay p region d → (z : List ℚ) × IsFormRay (form_of p region) z × (direction_of region z ≡ d) }
     ensures fewer { (p : Program) (region other : Region) (d : List ℚ) → HasItsBounds region other →
         IsRegionRay p other d → IsRegionRay p region d }
+    ensures ray { (p : Program) (region : Region) (d : List ℚ) → HasItsBounds (bounds p) region →
+        IsRegionRay p region d → IsRay p d }
 {}
 
 /// The calculation of the form answers the form, or the first of its operations that is past; and so do those of the point
