@@ -11,7 +11,7 @@ pub mod Forms
 pub mod Equations
 pub mod Scaled
 pub mod Points
-pub mod Solved
+pub mod Gaps
 pub mod Solving
 pub mod BoundBack
 pub mod Rays

@@ -27,7 +27,7 @@ use Rattle.equational.proofs.Forms.{products, costing, symmetric_pairs}
 use Rattle.equational.proofs.Equations.{All-front, All-back, IsFlat, all_flat, flat_all}
 use Rattle.equational.proofs.Points.{long_rows}
 use Rattle.equational.proofs.Scaled.{IsScaled, zero_times, scaled_keep, keep_scaled, rows_back, placed_zero, columns_back}
-use Rattle.equational.proofs.Solved.{row_gaps, bound_gaps, change-parts_of, less_zero}
+use Rattle.equational.proofs.Gaps.{row_gaps, bound_gaps, change-parts_of, less_zero}
 use Rattle.equational.proofs.Solving.{solution_by, length-cost, length-solution, nonneg_solution, scaled_solution}
 
 -- ---- zeros

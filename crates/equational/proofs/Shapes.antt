@@ -1,13 +1,13 @@
 -- The parts of the form fit, and its quadratic matrix is symmetric, and semidefinite where the program's is.
-use Rattle.std.specs.Prelude.{◌≡◌, ℕ, suc, ◌+◌, ◌-◌, ◌≤◌, ◌<◌, List, [], ◌∷◌, ◌++◌, map, length, replicate, Option, Some, None, Bool, true, false}
+use Rattle.std.specs.Prelude.{◌≡◌, ℕ, ◌+◌, ◌<◌, List, [], ◌∷◌, map, length, replicate, Bool, true, false}
 use Rattle.std.specs.List.{All}
 use Rattle.std.proofs.Common.{arith, sym, subst, ◌∙◌, ap, refl, cond, inl, inr, length-append}
 use Rattle.std.proofs.lemmas.List.{length-map}
 use Rattle.std.proofs.lemmas.List.Elements.{All-nil, All-cons, All-head, All-tail, All-append, All-replicate}
 use Rattle.algebra.proofs.Polynomial.{◌≼◌, lit, minus}
 use Rattle.algebra.proofs.Certificate.{prove, given, ◌⇐◌}
-use Rattle.rational.specs.Rational.{ℚ, zero_ℚ, one_ℚ, neg_ℚ, ◌-ℚ◌}
-use Rattle.rational.specs.Order.{◌≤ℚ◌, same_fields}
+use Rattle.rational.specs.Rational.{ℚ, zero_ℚ, neg_ℚ}
+use Rattle.rational.specs.Order.{◌≤ℚ◌}
 use Rattle.rational.specs.Sums.{entry}
 use Rattle.rational.specs.Vectors.{dot, zeros, unit_vector, rows_dot, row_at, HasColumns, IsSymmetric, IsSemidefinite}
 use Rattle.rational.proofs.Order.{ordered_rationals, lt_le, le_or_lt}
@@ -15,84 +15,18 @@ use Rattle.rational.proofs.Vectors.{dot_comm, dot-unit_vector, length-zeros, len
 use Rattle.rational.proofs.Forms.{form_comm}
 use Rattle.program_law.specs.Tests.{is_negative}
 use Rattle.program_law.proofs.Numbers.{negative_below, below_negative}
-use Rattle.program_law.specs.declared.Row.{Row}
 use Rattle.program_law.specs.Region.{Region}
 use Rattle.program_law.specs.Program.{Program, IsProgram, sides}
 use Rattle.equational.specs.Standing.{Standing, Above, Below, Free, standing, shift, parts, change, spread, spread_rows_at, spread_rows}
-use Rattle.equational.specs.Equations.{Equation, count_by, row_equations_by, row_equations, slacks_at, bound_equation_by, bound_slacks_by, bound_equations, row_slacks, bound_slacks, entries_in, is_negated, matrix_row, right_of}
+use Rattle.equational.specs.Equations.{Equation, row_equations, bound_equations, row_slacks, matrix_row, right_of}
 use Rattle.equational.specs.Form.{form_of, equations, slacks, width, padded}
 use Rattle.equational.specs.Solutions.{IsNotNegative, IsForm}
 use Rattle.equational.proofs.Adjoint.{length-spread, length-change}
 use Rattle.equational.proofs.Forms.{products, pairing, symmetric_pairs}
-use Rattle.equational.proofs.Equations.{equation}
+use Rattle.equational.proofs.Matrix.{FitsIn, matrix_columns, rows_fit, bounds_fit}
 use Rattle.equational.proofs.Solving.{length-cost}
 
--- ---- the equations
-
--- an equation with so many entries on the columns, whose own slacks are among all
-record IsFitting (n m : ℕ) (e : Equation) : Type 0 where
-  entries : length e.entries ≡ n
-  own : e.before + length e.own ≤ m
-
-one_fits : (n m : ℕ) (e : Equation) → length e.entries ≡ n → e.before + length e.own ≤ m → All (IsFitting n m) (e ∷ [])
-one_fits n m e f g = All-cons (IsFitting n m) e [] (record { entries = f; own = g }) (All-nil (IsFitting n m))
-
-row_fits : (low high : Option ℚ) (k n m : ℕ) (row : List ℚ) (a : ℚ) → length row ≡ n → k + (count_by low high).1 ≤ m → All (IsFitting n m) (row_equations_by low high k row a)
-row_fits None None k n m row a e f = All-nil (IsFitting n m)
-row_fits None (Some u) k n m row a e f = one_fits n m (equation row k (one_ℚ ∷ []) (u -ℚ a)) e f
-row_fits (Some l) None k n m row a e f = one_fits n m (equation row k (neg_ℚ one_ℚ ∷ []) (l -ℚ a)) e f
-row_fits (Some l) (Some u) k n m row a e f = by (same_fields l u) f
-  where
-    alone : Equation
-    alone = equation row k [] (l -ℚ a)
-
-    first : Equation
-    first = equation row k (one_ℚ ∷ []) (u -ℚ a)
-
-    second : Equation
-    second = equation (zeros (length row)) k (one_ℚ ∷ one_ℚ ∷ []) (u -ℚ l)
-
-    by : (t : Bool) → k + (cond {A = ℕ × ℕ} t (1, 0) (2, 2)).1 ≤ m → All (IsFitting n m) (cond t (alone ∷ []) (first ∷ second ∷ []))
-    by true f = one_fits n m alone e f
-    by false f =
-        All-cons (IsFitting n m) first (second ∷ []) (record { entries = e; own = omega arith }) (one_fits n m second (length-zeros (length row) ∙ e) f)
-
-rows_fit : (region : Region) (h : List ℚ) (k m : ℕ) (ss : List Row) (rows : List (List ℚ)) → k + row_slacks ss ≤ m → All (IsFitting (parts region) m) (row_equations region h k ss rows)
-rows_fit region h k m [] rows f = All-nil (IsFitting (parts region) m)
-rows_fit region h k m (s ∷ ss) [] f = All-nil (IsFitting (parts region) m)
-rows_fit region h k m (s ∷ ss) (row ∷ rows) f =
-    All-append (IsFitting (parts region) m) (row_equations_by s.low s.high k (spread region row) (dot row h)) (row_equations region h (k + slacks_at s) ss rows)
-    (row_fits s.low s.high k (parts region) m (spread region row) (dot row h) (length-spread region row) (omega arith))
-    (rows_fit region h (k + slacks_at s) m ss rows (omega arith))
-
-column_fits : (low high : Option ℚ) (k n m : ℕ) (unit : List ℚ) → length unit ≡ n → k + bound_slacks_by low high ≤ m → All (IsFitting n m) (bound_equation_by low high k unit)
-column_fits None None k n m unit e f = All-nil (IsFitting n m)
-column_fits None (Some u) k n m unit e f = All-nil (IsFitting n m)
-column_fits (Some l) None k n m unit e f = All-nil (IsFitting n m)
-column_fits (Some l) (Some u) k n m unit e f = one_fits n m (equation unit k (one_ℚ ∷ []) (u -ℚ l)) e f
-
-columns_fit : (region : Region) (k j m : ℕ) (bs : Region) → k + bound_slacks bs ≤ m → All (IsFitting (parts region) m) (bound_equations region k j bs)
-columns_fit region k j m [] f = All-nil (IsFitting (parts region) m)
-columns_fit region k j m (b ∷ bs) f =
-    let unit = spread region (unit_vector (length region) j) in
-    All-append (IsFitting (parts region) m) (bound_equation_by b.low b.high k unit) (bound_equations region (k + bound_slacks_by b.low b.high) (suc j) bs)
-    (column_fits b.low b.high k (parts region) m unit (length-spread region (unit_vector (length region) j)) (omega arith))
-    (columns_fit region (k + bound_slacks_by b.low b.high) (suc j) m bs (omega arith))
-
-signed_length : (t : Bool) (u : List ℚ) → length (cond t (map neg_ℚ u) u) ≡ length u
-signed_length true u = length-map u neg_ℚ
-signed_length false u = refl
-
-row_length : (n m : ℕ) (e : Equation) → IsFitting n m e → length (matrix_row m e) ≡ n + m
-row_length n m e f =
-    let a = length-append (e.entries ++ zeros e.before ++ e.own) (zeros (m - (e.before + length e.own))) in
-    let b = length-append (e.entries ++ zeros e.before) e.own in
-    let c = length-append e.entries (zeros e.before) in
-    let d = length-zeros e.before in
-    let g = length-zeros (m - (e.before + length e.own)) in
-    let h = f.entries in
-    let i = f.own in
-    signed_length (is_negated e) (entries_in m e) ∙ omega arith
+-- ---- the right sides
 
 right_nonneg : (e : Equation) → IsNotNegative (right_of e)
 right_nonneg e = by (is_negative e.right) refl
@@ -135,11 +69,6 @@ padded_widths n m (row ∷ rows) h =
     (let a = length-append row (zeros m) in let b = length-zeros m in let c = All-head (λ r. length r ≡ n) row rows h in omega arith)
     (padded_widths n m rows (All-tail (λ r. length r ≡ n) row rows h))
 
-matrix_widths : (n m : ℕ) (es : List Equation) → All (IsFitting n m) es → HasColumns (n + m) (map (matrix_row m) es)
-matrix_widths n m [] h = All-nil (λ r. length r ≡ n + m)
-matrix_widths n m (e ∷ es) h =
-    All-cons (λ r. length r ≡ n + m) (matrix_row m e) (map (matrix_row m) es) (row_length n m e (All-head (IsFitting n m) e es h)) (matrix_widths n m es (All-tail (IsFitting n m) e es h))
-
 quadratic_width : (p : Program) (region : Region) → HasColumns (width p region) (form_of p region).quadratic
 quadratic_width p region =
     let m = slacks p region in
@@ -157,11 +86,11 @@ quadratic_height p region h =
 pub shape : (p : Program) (region : Region) → IsProgram p → length region ≡ length p.columns → IsForm (width p region) (form_of p region)
 shape p region is e =
     let m = slacks p region in
-    let P = IsFitting (parts region) m in
+    let P = FitsIn (parts region) m in
     record {
-      columns = matrix_widths (parts region) m (equations p region)
+      columns = matrix_columns (parts region) m (equations p region)
           (All-append P (row_equations region (shift region) 0 (sides p) p.entries) (bound_equations region (row_slacks (sides p)) 0 region)
-          (rows_fit region (shift region) 0 m (sides p) p.entries (omega arith)) (columns_fit region (row_slacks (sides p)) 0 m region (omega arith)));
+          (rows_fit region (shift region) 0 (sides p) p.entries m (omega arith)) (bounds_fit region (row_slacks (sides p)) 0 region m (omega arith)));
       right = length-map (equations p region) right_of ∙ sym (length-map (equations p region) (matrix_row m));
       not_negative = rights_nonneg (equations p region);
       pairs_height = quadratic_height p region (is.pairs_height ∙ sym e);

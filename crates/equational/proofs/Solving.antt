@@ -19,7 +19,7 @@ use Rattle.equational.proofs.Adjoint.{length-spread}
 use Rattle.equational.proofs.Equations.{IsKept, kept_all}
 use Rattle.equational.proofs.Points.{long_rows}
 use Rattle.equational.proofs.Scaled.{IsScaled, AllScaledWithin, one_times, scaled_within}
-use Rattle.equational.proofs.Solved.{parts_of, row_gaps, bound_gaps, less, change-parts_of, drop-parts_of, length-parts_of, dot-less, less_one, rows_met, columns_met, length-row_gaps, length-bound_gaps, parts_nonneg, row_gaps_nonneg, bound_gaps_nonneg}
+use Rattle.equational.proofs.Gaps.{parts_of, row_gaps, bound_gaps, less, change-parts_of, drop-parts_of, length-parts_of, dot-less, less_one, rows_met, columns_met, length-row_gaps, length-bound_gaps, parts_nonneg, row_gaps_nonneg, bound_gaps_nonneg}
 
 -- what stands in the form for x, c times the sides
 abbrev pub solution_by : ℚ → Program → Region → List ℚ → List ℚ

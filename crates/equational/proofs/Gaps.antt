@@ -1,5 +1,5 @@
--- A solution from a point, and a ray of the form from a direction: the numbers c times the sides leave room for are
--- what the point, with c = 1, or the direction, with c = 0, leaves of the sides.
+-- What a point, with c = 1, or a direction, with c = 0, leaves of c times the sides: from it come the solution of the form
+-- and the ray of the form that stand for it.
 use Rattle.std.specs.Prelude.{◌≡◌, ℕ, zero, suc, ◌+◌, List, [], ◌∷◌, ◌++◌, length, drop, Option, Some, None, Bool, true, false}
 use Rattle.std.specs.List.{All}
 use Rattle.std.proofs.Common.{arith, sym, subst, ◌∙◌, ap, refl, cond, inl, inr, length-append, drop-drop}
