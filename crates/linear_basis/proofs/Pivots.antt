@@ -36,13 +36,13 @@ module _ (m : ℕ) (B N : List (List ℚ)) (h : IsInverseOf m B N) (a : List ℚ
   unit_size : length (unit_vector m l) ≡ length (scale (neg_ℚ one_ℚ) t)
   unit_size = length-unit_vector m l ∙ sym t_size ∙ sym (length-scale (neg_ℚ one_ℚ) t)
 
-  d_size : length d ≡ m
+  pub d_size : length d ≡ m
   d_size = length-add_each (unit_vector m l) (scale (neg_ℚ one_ℚ) t) unit_size ∙ length-unit_vector m l
 
-  d_rows : length d ≡ length N
+  pub d_rows : length d ≡ length N
   d_rows = d_size ∙ sym h.rows
 
-  entry-d : (k : ℕ) → entry d k ≡ entry (unit_vector m l) k +ℚ neg_ℚ one_ℚ *ℚ entry t k
+  pub entry-d : (k : ℕ) → entry d k ≡ entry (unit_vector m l) k +ℚ neg_ℚ one_ℚ *ℚ entry t k
   entry-d k = entry-add_each (unit_vector m l) (scale (neg_ℚ one_ℚ) t) k unit_size ∙ ap (λ s. entry (unit_vector m l) k +ℚ s) (entry-scale (neg_ℚ one_ℚ) t k)
 
   pub dot-row : (v : List ℚ) → dot row v ≡ reciprocal (entry t l) *ℚ entry (rows_dot N v) l
