@@ -1,6 +1,6 @@
 -- A basis of a problem: what its point and its multipliers give.
 use Rattle.std.proofs.Common.{inl, inr, ◌≡◌, refl, sym, subst, ◌∙◌, ap, ℕ, zero, suc, ◌<◌, ◌≤◌, ◌-◌, List, [], ◌∷◌, length, arith, map}
-use Rattle.std.specs.Prelude.{Contains, slice_index_or, nat_lt, Bool, true, false, ◌+◌}
+use Rattle.std.specs.Prelude.{◌⊎◌, Contains, slice_index_or, nat_lt, Bool, true, false, ◌+◌}
 use Rattle.std.proofs.lemmas.Bool.Decides.{nat_tests}
 use Rattle.std.proofs.lemmas.List.Elements.{Contains-get_or}
 use Rattle.algebra.proofs.Polynomial.{◌⊕◌, ◌⊗◌, ◌≐◌, ◌⊝◌, lit}
@@ -46,6 +46,13 @@ cost_of-unit p j h = by (nat_lt j p.given) refl
     by : (b : Bool) → nat_lt j p.given ≡ b → cost_of p j ≡ one_ℚ
     by true e = absurd (grind (arith, nat_tests))
     by false e = rw e refl
+
+pub given_or_unit : (p : Problem) (j : ℕ) → (p.given ≤ j) ⊎ (j < p.given)
+given_or_unit p j = by (nat_lt j p.given) refl
+  where
+    by : (b : Bool) → nat_lt j p.given ≡ b → (p.given ≤ j) ⊎ (j < p.given)
+    by true e = inr (grind (arith, nat_tests))
+    by false e = inl (grind (arith, nat_tests))
 
 pub length-column_of : (p : Problem) (j : ℕ) → IsProblem p → length (column_of p j) ≡ height p
 length-column_of p j h = by (nat_lt j p.given) refl

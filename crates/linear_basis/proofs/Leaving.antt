@@ -22,8 +22,8 @@ use Rattle.linear_basis.specs.Exchange.{coordinates, quotient_row, shift, add_mu
 use Rattle.linear_basis.proofs.Places.{same_or_other, row_at-add_multiples, length-add_multiples, row_at-beside}
 use Rattle.linear_basis.proofs.Inverses.{dot-multipliers}
 use Rattle.linear_basis.proofs.Bases.{size, costs_size, multipliers_size, cost_of-given, entry-map, length-column_of}
-use Rattle.linear_basis.proofs.Exchanges.{exchange_basis, rows_are, level_moves, factor_place, factor_other, divided_place, full_is}
-use Rattle.linear_basis.proofs.Order.{positive-scale, positive-add_multiple, less_multiple, below_total, below_trans, below_irrefl, falls, IsLeastBelow, has_least}
+use Rattle.linear_basis.proofs.Changes.{exchange_basis, rows_are, level_moves, factor_place, factor_other, divided_place, full_is}
+use Rattle.linear_basis.proofs.Lexicographic.{positive-scale, positive-add_multiple, less_multiple, below_total, below_trans, below_irrefl, falls, IsLeastBelow, has_least}
 
 -- ---- rows by place
 
@@ -108,10 +108,10 @@ module _ (p : Problem) (b : Tableau) (h : IsBasis p b) where
     May k = (k < height p) × (zero_ℚ <ℚ entry t k)
 
     may : (k : ℕ) → May k ⊎ ¬ (May k)
-    may k = by (le_or_lt (height p) k) (le_or_lt (entry t k) zero_ℚ)
+    may k = by (is_below (height p) k) (le_or_lt (entry t k) zero_ℚ)
       where
-        le_or_lt : (m k : ℕ) → (k < m) ⊎ ¬ (k < m)
-        le_or_lt m k = by (nat_lt k m) refl
+        is_below : (m k : ℕ) → (k < m) ⊎ ¬ (k < m)
+        is_below m k = by (nat_lt k m) refl
           where
             by : (b : Bool) → nat_lt k m ≡ b → (k < m) ⊎ ¬ (k < m)
             by true e = inl (grind (arith, nat_tests))

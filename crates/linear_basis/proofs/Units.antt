@@ -23,22 +23,22 @@ use Rattle.linear_basis.proofs.Leaving.{All-by_row_at}
 unit_columns : (p : Problem) (a i k : ℕ) → a ≡ p.given + i → map (column_of p) (range_with_len a k) ≡ unit_rows (height p) i k
 unit_columns p a i zero e = refl
 unit_columns p a i (suc k) e =
-    ap (λ u. u ∷ map (column_of p) (range_with_len (suc a) k)) (column_of-unit p a (omega (arith, e)) ∙ ap (unit_vector (height p)) (place a i p.given e))
-    ∙ ap (λ rest. unit_vector (height p) i ∷ rest) (unit_columns p (suc a) (suc i) k (next a i p.given e))
+    ap (λ u. u ∷ map (column_of p) (range_with_len (a + 1) k)) (column_of-unit p a (omega (arith, e)) ∙ ap (unit_vector (height p)) (place a i p.given e))
+    ∙ ap (λ rest. unit_vector (height p) i ∷ rest) (unit_columns p (a + 1) (suc i) k (next a i p.given e))
   where
     place : (a i n : ℕ) → a ≡ n + i → a - n ≡ i
     place a i n e = omega (arith, e)
-    next : (a i n : ℕ) → a ≡ n + i → suc a ≡ n + suc i
+    next : (a i n : ℕ) → a ≡ n + i → a + 1 ≡ n + suc i
     next a i n e = omega (arith, e)
 
 unit_costs : (p : Problem) (a k : ℕ) → p.given ≤ a → map (cost_of p) (range_with_len a k) ≡ replicate k one_ℚ
 unit_costs p a zero e = refl
 unit_costs p a (suc k) e =
-    ap (λ u. u ∷ map (cost_of p) (range_with_len (suc a) k)) (cost_of-unit p a e) ∙ ap (λ rest. one_ℚ ∷ rest) (unit_costs p (suc a) k (omega arith))
+    ap (λ u. u ∷ map (cost_of p) (range_with_len (a + 1) k)) (cost_of-unit p a e) ∙ ap (λ rest. one_ℚ ∷ rest) (unit_costs p (a + 1) k (omega arith))
 
 all_within : (w a k : ℕ) → a + k ≤ w → All (λ j. j < w) (range_with_len a k)
 all_within w a zero e = All-nil (λ j. j < w)
-all_within w a (suc k) e = All-cons (λ j. j < w) a (range_with_len (suc a) k) (omega arith) (all_within w (suc a) k (omega arith))
+all_within w a (suc k) e = All-cons (λ j. j < w) a (range_with_len (a + 1) k) (omega arith) (all_within w (a + 1) k (omega arith))
 
 row_at-units : (m i k c : ℕ) → c < k → row_at (unit_rows m i k) c ≡ unit_vector m (i + c)
 row_at-units m i zero c h = absurd (omega arith)

@@ -154,7 +154,7 @@ module _ (P : ℕ → Type 0) (decide : (k : ℕ) → P k ⊎ ¬ (P k)) (q : ℕ
     pub holds : P l
     pub least : (k : ℕ) → k < c → k ≢ l → P k → IsLexBelow (q l) (q k)
 
-  abbrev HasLeast : ℕ → Type 0
+  abbrev pub HasLeast : ℕ → Type 0
   HasLeast c = ((k : ℕ) → k < c → ¬ (P k)) ⊎ ((l : ℕ) × IsLeastBelow c l)
 
   pub has_least : (c : ℕ) → HasLeast c
@@ -192,3 +192,18 @@ module _ (P : ℕ → Type 0) (decide : (k : ℕ) → P k ⊎ ¬ (P k)) (q : ℕ
               before : (k : ℕ) → k < c → P k → (k ≡ r.0) ⊎ (k ≢ r.0) → IsLexBelow (q c) (q k)
               before k s i (inl e) = subst (λ k. IsLexBelow (q c) (q k)) (sym e) b
               before k s i (inr n) = below_trans (q c) (q r.0) (q k) b (r.1.least k s n i)
+
+abbrev Every : ℕ → Type 0
+Every k = Unit {0}
+
+-- among finitely many different lists one is least
+pub some_least : (q : ℕ → List ℚ) (c w : ℕ) → 0 < c → ((k : ℕ) → length (q k) ≡ w) → ((k l : ℕ) → k ≢ l → ¬ (q k ≡ q l)) → (l : ℕ) × (l < c) × ((k : ℕ) → k < c → k ≢ l → IsLexBelow (q l) (q k))
+some_least q c w some sizes differ = by (has_least Every (λ k. inl tt) q (λ k l i o n. apart k l n (below_total (q k) (q l) (sizes k ∙ sym (sizes l)))) c)
+  where
+    apart : (k l : ℕ) → k ≢ l → IsLexBelow (q k) (q l) ⊎ (q k ≡ q l) ⊎ IsLexBelow (q l) (q k) → IsLexBelow (q k) (q l) ⊎ IsLexBelow (q l) (q k)
+    apart k l n (inl r) = inl r
+    apart k l n (inr (inl e)) = absurd (differ k l n e)
+    apart k l n (inr (inr r)) = inr r
+    by : HasLeast Every (λ k. inl tt) q (λ k l i o n. apart k l n (below_total (q k) (q l) (sizes k ∙ sym (sizes l)))) c → (l : ℕ) × (l < c) × ((k : ℕ) → k < c → k ≢ l → IsLexBelow (q l) (q k))
+    by (inl none) = absurd (none 0 some tt)
+    by (inr r) = (r.0, r.1.place, λ k i n. r.1.least k i n tt)

@@ -66,10 +66,10 @@ module _ (p : Problem) (b : Tableau) (problem : IsProblem p) (h : IsBasis p b) (
     inverse = subst (λ C. IsInverseOf m C c.inverse) (sym new_columns) (pivot_inverts m B N h.inverse a a_size l place nonzero);
   }
 
-  factor_place : entry (shift m t l) l ≡ one_ℚ +ℚ neg_ℚ one_ℚ *ℚ entry t l
+  pub factor_place : entry (shift m t l) l ≡ one_ℚ +ℚ neg_ℚ one_ℚ *ℚ entry t l
   factor_place = entry-d m B N h.inverse a a_size l place nonzero l ∙ ap (λ s. s +ℚ neg_ℚ one_ℚ *ℚ entry t l) (entry-unit_vector_same m l place)
 
-  factor_other : (k : ℕ) → k ≢ l → entry (shift m t l) k ≡ neg_ℚ (entry t k)
+  pub factor_other : (k : ℕ) → k ≢ l → entry (shift m t l) k ≡ neg_ℚ (entry t k)
   factor_other k n =
       entry-d m B N h.inverse a a_size l place nonzero k ∙ ap (λ s. s +ℚ neg_ℚ one_ℚ *ℚ entry t k) (entry-unit_vector_other m l k (λ e. n (sym e)))
       ∙ ring rationals (entry t k ∷ []) (λ t. lit 0 ⊕ minus (lit 1) ⊗ t ≐ minus t) refl
