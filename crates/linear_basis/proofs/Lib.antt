@@ -7,4 +7,5 @@ pub mod Lexicographic
 pub mod Leaving
 pub mod Units
 pub mod Verdicts
+pub mod WorkedBasis
 

@@ -33,20 +33,19 @@ lower k (x ∷ xs) h n = (at x k h.0 n.0, lower k xs h.1 n.1)
 
 without : (k : ℕ) (xs : List ℕ) → AreDistinct xs → AreBelow (suc k) xs → Without k xs
 without k [] d h = record { left = []; distinct = tt; below = tt; count = omega arith; kept = λ z a. tt }
-without k (x ∷ xs) d h = by (same_or_other x k)
+without k (x ∷ xs) d h = by (same_or_other x k) (without k xs d.1 h.1)
   where
     at : (x k : ℕ) → x < suc k → x ≢ k → x < k
     at x k l m = grind arith
-    by : (x ≡ k) ⊎ (x ≢ k) → Without k (x ∷ xs)
-    by (inl e) = record {
+    by : (x ≡ k) ⊎ (x ≢ k) → Without k xs → Without k (x ∷ xs)
+    by (inl e) r = record {
       left = xs;
       distinct = d.1;
       below = lower k xs h.1 (subst (λ x. Avoids x xs) e d.0);
       count = omega arith;
       kept = λ z a. a.1;
     }
-    by (inr n) =
-        let r = without k xs d.1 h.1 in
+    by (inr n) r =
         let c = r.count in
         record {
           left = x ∷ r.left;
@@ -111,23 +110,19 @@ same_bit (inr n) (inr m) e = (λ a. absurd (n a), λ b. absurd (m b))
 -- one number, one set
 pub same_code : (k : ℕ) (xs ys : List ℕ) → code k xs ≡ code k ys → (j : ℕ) → j < k → Contains xs j ↔ Contains ys j
 same_code zero xs ys e j l = absurd (omega arith)
-same_code (suc k) xs ys e j l = by (same_or_other j k)
+same_code (suc k) xs ys e j l = by (same_or_other j k) (λ n. same_code k xs ys
+    (halves (code k xs) (code k ys) (bit (contains_or xs k)) (bit (contains_or ys k)) (bit_below (contains_or xs k)) (bit_below (contains_or ys k)) e) j (at j k l n))
   where
-    a : ℕ
-    a = bit (contains_or xs k)
-    b : ℕ
-    b = bit (contains_or ys k)
     halves : (c d a b : ℕ) → a ≤ 1 → b ≤ 1 → c + c + a ≡ d + d + b → c ≡ d
     halves c d a b h i e = omega (arith, e)
     digits : (c d a b : ℕ) → a ≤ 1 → b ≤ 1 → c + c + a ≡ d + d + b → a ≡ b
     digits c d a b h i e = omega (arith, e)
     at : (j k : ℕ) → j < suc k → j ≢ k → j < k
     at j k l n = grind arith
-    by : (j ≡ k) ⊎ (j ≢ k) → Contains xs j ↔ Contains ys j
-    by (inl f) = subst (λ j. Contains xs j ↔ Contains ys j) (sym f) (same_bit (contains_or xs k) (contains_or ys k)
+    by : (j ≡ k) ⊎ (j ≢ k) → ((j ≢ k) → Contains xs j ↔ Contains ys j) → Contains xs j ↔ Contains ys j
+    by (inl f) lower = subst (λ j. Contains xs j ↔ Contains ys j) (sym f) (same_bit (contains_or xs k) (contains_or ys k)
         (digits (code k xs) (code k ys) (bit (contains_or xs k)) (bit (contains_or ys k)) (bit_below (contains_or xs k)) (bit_below (contains_or ys k)) e))
-    by (inr n) = same_code k xs ys
-        (halves (code k xs) (code k ys) (bit (contains_or xs k)) (bit (contains_or ys k)) (bit_below (contains_or xs k)) (bit_below (contains_or ys k)) e) j (at j k l n)
+    by (inr n) lower = lower n
 
 -- lists with all their numbers below k
 pub same_sets : (k : ℕ) (xs ys : List ℕ) → All (λ j. j < k) xs → All (λ j. j < k) ys → code k xs ≡ code k ys → (j : ℕ) → Contains xs j ↔ Contains ys j
