@@ -1,18 +1,18 @@
 -- A basis of a problem: what its point and its multipliers give.
-use Rattle.std.proofs.Common.{inl, inr, ◌≡◌, refl, sym, subst, ◌∙◌, ap, ℕ, zero, suc, ◌<◌, ◌≤◌, ◌-◌, List, [], ◌∷◌, length, arith, map}
-use Rattle.std.specs.Prelude.{◌⊎◌, Contains, slice_index_or, nat_lt, Bool, true, false, ◌+◌}
+use Rattle.std.proofs.Common.{inl, inr, ◌≡◌, refl, sym, ◌∙◌, ap, ℕ, zero, suc, ◌<◌, ◌≤◌, ◌-◌, List, [], ◌∷◌, length, arith, map}
+use Rattle.std.specs.Prelude.{◌⊎◌, Contains, slice_index_or, nat_lt, Bool, true, false}
 use Rattle.std.proofs.lemmas.Bool.Decides.{nat_tests}
 use Rattle.std.proofs.lemmas.List.Elements.{Contains-get_or}
-use Rattle.algebra.proofs.Polynomial.{◌⊕◌, ◌⊗◌, ◌≐◌, ◌⊝◌, lit}
+use Rattle.algebra.proofs.Polynomial.{◌≐◌, ◌⊝◌, lit}
 use Rattle.algebra.proofs.Solver.{ring}
 use Rattle.rational.specs.Rational.{ℚ, zero_ℚ, one_ℚ, ◌-ℚ◌}
 use Rattle.rational.specs.Sums.{entry}
-use Rattle.rational.specs.Vectors.{dot, zeros, unit_vector, rows_dot, combine, column, row_at}
+use Rattle.rational.specs.Vectors.{dot, unit_vector, rows_dot, combine, column, row_at}
 use Rattle.rational.proofs.Field.{rationals}
 use Rattle.rational.proofs.Vectors.{length-combine, length-rows_dot, length-unit_vector, length-column, dot_comm, same_by_entries, entry-rows_dot}
-use Rattle.linear_basis.specs.Problem.{Problem, IsProblem, height, width, column_of, cost_of}
-use Rattle.linear_basis.specs.Basis.{Tableau, IsBasis, IsInverseOf, basic_columns, basic_costs, point, multipliers, price, level, HasSameColumns}
-use Rattle.linear_basis.proofs.Inverses.{multipliers_cost, multipliers_only, dot-multipliers}
+use Rattle.linear_basis.specs.Problem.{Problem, IsProblem, height, column_of, cost_of}
+use Rattle.linear_basis.specs.Basis.{Tableau, IsBasis, basic_columns, basic_costs, point, multipliers, price, level, HasSameColumns}
+use Rattle.linear_basis.proofs.Inverses.{multipliers_cost, multipliers_only}
 
 pub length-mapped : {X Y : Type 0} (f : X → Y) (xs : List X) → length (map f xs) ≡ length xs
 length-mapped f [] = refl

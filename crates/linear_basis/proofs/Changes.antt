@@ -1,6 +1,6 @@
 -- An exchange makes a basis, by the pivot formulas.
-use Rattle.std.proofs.Common.{inl, inr, ◌≡◌, ◌≢◌, refl, sym, subst, ◌∙◌, ap, ℕ, zero, suc, ◌<◌, ◌⊎◌, List, [], ◌∷◌, length, arith, map}
-use Rattle.std.specs.Prelude.{All, slice_set}
+use Rattle.std.proofs.Common.{◌≡◌, ◌≢◌, refl, sym, subst, ◌∙◌, ap, ℕ, ◌<◌, List, [], ◌∷◌, length, arith}
+use Rattle.std.specs.Prelude.{slice_set}
 use Rattle.std.proofs.lemmas.List.Elements.{All-set}
 use Rattle.algebra.proofs.Polynomial.{minus, ◌⊕◌, ◌⊗◌, ◌≐◌, ◌⊝◌, lit}
 use Rattle.algebra.proofs.Solver.{ring}
@@ -11,12 +11,11 @@ use Rattle.rational.specs.Vectors.{dot, add_each, scale, unit_vector, rows_dot, 
 use Rattle.rational.proofs.Field.{rationals, mul-reciprocal}
 use Rattle.rational.proofs.Order.{ordered_rationals}
 use Rattle.rational.proofs.Vectors.{length-rows_dot, length-unit_vector, length-scale, dot-scale_left, dot-add_scale_left, entry-rows_dot, entry-add_each, entry-scale, entry-unit_vector_same, entry-unit_vector_other}
-use Rattle.exact_matrix.specs.EliminationAnswers.{right_beside}
 use Rattle.linear_basis.specs.Problem.{Problem, IsProblem, height, width, column_of, cost_of}
 use Rattle.linear_basis.specs.Basis.{Tableau, IsBasis, IsInverseOf, basic_columns, basic_costs, point, multipliers, price, level, tableau_rows}
-use Rattle.linear_basis.specs.Exchange.{coordinates, quotient_row, shift, add_multiples, pivoted, exchanged}
+use Rattle.linear_basis.specs.Exchange.{coordinates, quotient_row, shift, add_multiples, exchanged}
 use Rattle.linear_basis.proofs.Places.{map-slice_set, row_at-add_multiples, beside-add_multiples, row_at-beside}
-use Rattle.linear_basis.proofs.Pivots.{pivot_inverts, new_multipliers, dot-row, row_size, d_rows, d_size, entry-d}
+use Rattle.linear_basis.proofs.Pivots.{pivot_inverts, new_multipliers, dot-row, row_size, d_rows, entry-d}
 use Rattle.linear_basis.proofs.Bases.{length-column_of, multipliers_size, costs_size}
 
 -- u + (1 - t) u / t is u / t

@@ -1,9 +1,9 @@
 -- What the inverse of a list of columns gives.
-use Rattle.std.proofs.Common.{inl, inr, ◌≡◌, refl, sym, ◌∙◌, ap, ℕ, zero, suc, ◌<◌, List, [], ◌∷◌, length, arith}
-use Rattle.rational.specs.Rational.{ℚ, zero_ℚ, one_ℚ, ◌+ℚ◌, ◌*ℚ◌}
+use Rattle.std.proofs.Common.{inl, inr, ◌≡◌, refl, sym, ◌∙◌, ap, ℕ, suc, ◌<◌, List, [], ◌∷◌, length, arith}
+use Rattle.rational.specs.Rational.{ℚ}
 use Rattle.rational.specs.Sums.{entry}
-use Rattle.rational.specs.Vectors.{dot, zeros, unit_vector, rows_dot, combine, row_at, HasColumns}
-use Rattle.rational.proofs.Vectors.{length-combine, length-rows_dot, length-unit_vector, length-row_at, length-zeros, dot_comm, dot-unit_vector, dot-zeros_right, transpose, same_by_dot, same_by_entries, entry-rows_dot, entry-zeros, entry-unit_vector_same, entry-unit_vector_other}
+use Rattle.rational.specs.Vectors.{dot, zeros, unit_vector, rows_dot, combine, row_at}
+use Rattle.rational.proofs.Vectors.{length-combine, length-rows_dot, length-unit_vector, length-row_at, length-zeros, dot_comm, dot-unit_vector, dot-zeros_right, transpose, same_by_dot, same_by_entries, entry-rows_dot, entry-zeros, entry-unit_vector_other}
 use Rattle.linear_basis.specs.Basis.{IsInverseOf}
 use Rattle.linear_basis.proofs.Places.{same_or_other}
 use Rattle.std.specs.Prelude.{◌⊎◌, ◌≢◌}

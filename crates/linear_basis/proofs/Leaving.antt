@@ -1,28 +1,26 @@
 -- The lexicographic ratio rule: there is one place that leaves, and only one; and the exchange there keeps the basis standing.
-use Rattle.std.proofs.Common.{inl, inr, ⊎_elim, ◌≡◌, ◌≢◌, refl, sym, subst, ◌∙◌, ap, ℕ, zero, suc, ◌<◌, ◌⊎◌, List, [], ◌∷◌, length, arith, map}
+use Rattle.std.proofs.Common.{inl, inr, ⊎_elim, ◌≡◌, ◌≢◌, refl, sym, subst, ◌∙◌, ap, ℕ, zero, suc, ◌<◌, ◌⊎◌, List, [], ◌∷◌, length, arith}
 use Rattle.std.specs.Prelude.{All, slice_index_or, nat_lt, drop, Bool, true, false}
 use Rattle.std.proofs.lemmas.Bool.Decides.{nat_tests}
 use Rattle.algebra.proofs.Polynomial.{minus, ◌⊕◌, ◌⊗◌, ◌⊝◌, ◌≐◌, ◌≼◌, ◌≺◌, lit}
-use Rattle.algebra.proofs.Solver.{ring}
 use Rattle.algebra.proofs.Certificate.{prove, given, scaled, ◌⊞◌, ◌⊠◌, ◌⇐◌}
-use Rattle.rational.specs.Rational.{ℚ, zero_ℚ, one_ℚ, ◌+ℚ◌, ◌-ℚ◌, ◌*ℚ◌, neg_ℚ, reciprocal}
+use Rattle.rational.specs.Rational.{ℚ, zero_ℚ, one_ℚ, ◌*ℚ◌, neg_ℚ, reciprocal}
 use Rattle.rational.specs.Order.{◌≤ℚ◌, ◌<ℚ◌}
 use Rattle.rational.specs.Sums.{entry}
-use Rattle.rational.specs.Vectors.{dot, add_each, scale, unit_vector, rows_dot, row_at}
-use Rattle.rational.proofs.Field.{rationals, mul-reciprocal}
+use Rattle.rational.specs.Vectors.{dot, add_each, scale, unit_vector, row_at}
+use Rattle.rational.proofs.Field.{mul-reciprocal}
 use Rattle.rational.proofs.Order.{ordered_rationals, lt_irrefl, le_or_lt, le_refl}
-use Rattle.rational.proofs.OrderLaws.{ne_of_lt, reciprocal_positive, not-le_of_lt, le_of_eq}
+use Rattle.rational.proofs.OrderLaws.{ne_of_lt, reciprocal_positive, not-le_of_lt}
 use Rattle.rational.proofs.Vectors.{length-rows_dot, length-row_at, length-scale, dot-scale_left, entry-rows_dot, entry-unit_vector_same, entry-unit_vector_other}
-use Rattle.exact_matrix.specs.EliminationAnswers.{right_beside}
 use Rattle.exact_matrix.proofs.EliminationVectors.{length-right_beside}
 use Rattle.linear_basis.specs.Problem.{Problem, IsProblem, height, width, column_of, cost_of}
 use Rattle.linear_basis.specs.Lexicographic.{IsLexPositive, IsLexBelow}
 use Rattle.linear_basis.specs.Basis.{Tableau, IsBasis, IsStanding, basic_columns, basic_costs, point, multipliers, price, level, tableau_rows}
-use Rattle.linear_basis.specs.Exchange.{coordinates, quotient_row, shift, add_multiples, exchanged, IsLeaving}
+use Rattle.linear_basis.specs.Exchange.{coordinates, quotient_row, shift, exchanged, IsLeaving}
 use Rattle.linear_basis.proofs.Places.{same_or_other, row_at-add_multiples, length-add_multiples, row_at-beside}
 use Rattle.linear_basis.proofs.Inverses.{dot-multipliers}
 use Rattle.linear_basis.proofs.Bases.{size, costs_size, multipliers_size, cost_of-given, entry-map, length-column_of}
-use Rattle.linear_basis.proofs.Changes.{exchange_basis, rows_are, level_moves, factor_place, factor_other, divided_place, full_is}
+use Rattle.linear_basis.proofs.Changes.{rows_are, level_moves, factor_place, factor_other, divided_place}
 use Rattle.linear_basis.proofs.Lexicographic.{positive-scale, positive-add_multiple, less_multiple, below_total, below_trans, below_irrefl, falls, IsLeastBelow, has_least}
 
 -- ---- rows by place
@@ -83,7 +81,7 @@ module _ (p : Problem) (b : Tableau) (h : IsBasis p b) where
         let e : s ≡ dot (basic_costs p b) t = dot-multipliers (height p) (basic_columns p b) b.inverse h.inverse (basic_costs p b) (column_of p j) in
         let at : (k : ℕ) → k < length (basic_costs p b) → k < height p = λ k l. omega (arith, l, costs_size p b h) in
         let not_above : dot (basic_costs p b) t ≤ℚ zero_ℚ = dot-nonpos (basic_costs p b) t (λ k l. basic_costs_nonneg k (at k l))
-          (λ k l. ⊎_elim (λ u. u) (λ u. absurd (none k (at k l) u)) (le_or_lt (entry t k) zero_ℚ)) in
+        (λ k l. ⊎_elim (λ u. u) (λ u. absurd (none k (at k l) u)) (le_or_lt (entry t k) zero_ℚ)) in
         lt_irrefl zero_ℚ (prove ordered_rationals (cost_of p j ∷ s ∷ dot (basic_costs p b) t ∷ [])
         (λ c s d. lit 0 ≺ lit 0 ⇐ given (c ⊝ s ≺ lit 0) ⊞ given (lit 0 ≐ c) ⊞ given (s ≐ d) ⊞ given (d ≼ lit 0)) refl
         falling (sym (cost_of-given p j within)) e not_above)
@@ -93,13 +91,13 @@ module _ (p : Problem) (b : Tableau) (h : IsBasis p b) where
     no_tie k l i o n positive_k positive_l same =
         let B = basic_columns p b in
         let tails : scale (reciprocal (entry t k)) (row_at b.inverse k) ≡ scale (reciprocal (entry t l)) (row_at b.inverse l) =
-            ap (drop 1) (sym (ap (scale (reciprocal (entry t k))) (row_is k i)) ∙ same ∙ ap (scale (reciprocal (entry t l))) (row_is l o)) in
+        ap (drop 1) (sym (ap (scale (reciprocal (entry t k))) (row_is k i)) ∙ same ∙ ap (scale (reciprocal (entry t l))) (row_is l o)) in
         let with : (q : ℕ) → dot (scale (reciprocal (entry t q)) (row_at b.inverse q)) (row_at B k) ≡ reciprocal (entry t q) *ℚ entry (unit_vector (height p) k) q =
-            λ q. dot-scale_left (reciprocal (entry t q)) (row_at b.inverse q) (row_at B k)
-                ∙ ap (λ s. reciprocal (entry t q) *ℚ s) (sym (entry-rows_dot b.inverse (row_at B k) q) ∙ ap (λ u. entry u q) (h.inverse.left k i)) in
+        λ q. dot-scale_left (reciprocal (entry t q)) (row_at b.inverse q) (row_at B k)
+        ∙ ap (λ s. reciprocal (entry t q) *ℚ s) (sym (entry-rows_dot b.inverse (row_at B k) q) ∙ ap (λ u. entry u q) (h.inverse.left k i)) in
         let one : reciprocal (entry t k) *ℚ one_ℚ ≡ reciprocal (entry t l) *ℚ zero_ℚ =
-            ap (λ s. reciprocal (entry t k) *ℚ s) (sym (entry-unit_vector_same (height p) k i)) ∙ sym (with k) ∙ ap (λ u. dot u (row_at B k)) tails
-            ∙ with l ∙ ap (λ s. reciprocal (entry t l) *ℚ s) (entry-unit_vector_other (height p) k l n) in
+        ap (λ s. reciprocal (entry t k) *ℚ s) (sym (entry-unit_vector_same (height p) k i)) ∙ sym (with k) ∙ ap (λ u. dot u (row_at B k)) tails
+        ∙ with l ∙ ap (λ s. reciprocal (entry t l) *ℚ s) (entry-unit_vector_other (height p) k l n) in
         lt_irrefl zero_ℚ (prove ordered_rationals (reciprocal (entry t k) ∷ reciprocal (entry t l) ∷ [])
         (λ a c. lit 0 ≺ lit 0 ⇐ given (lit 0 ≺ a) ⊞ given (a ⊗ lit 1 ≐ c ⊗ lit 0)) refl (reciprocal_positive positive_k) one)
 
@@ -116,6 +114,7 @@ module _ (p : Problem) (b : Tableau) (h : IsBasis p b) where
             by : (b : Bool) → nat_lt k m ≡ b → (k < m) ⊎ ¬ (k < m)
             by true e = inl (grind (arith, nat_tests))
             by false e = inr (λ l. grind (arith, nat_tests))
+
         by : (k < height p) ⊎ ¬ (k < height p) → (entry t k ≤ℚ zero_ℚ) ⊎ (zero_ℚ <ℚ entry t k) → May k ⊎ ¬ (May k)
         by (inl i) (inl u) = inr (λ s. not-le_of_lt s.1 u)
         by (inl i) (inr u) = inl (i, u)

@@ -1,13 +1,11 @@
 -- The lexicographic order.
 use Rattle.std.proofs.Common.{inl, inr, ⊎_elim, ◌≡◌, ◌≢◌, refl, sym, subst, ◌∙◌, ap, ℕ, zero, suc, ◌<◌, ◌⊎◌, List, [], ◌∷◌, length, arith}
-use Rattle.std.specs.Prelude.{◌↔◌}
-use Rattle.algebra.proofs.Polynomial.{minus, ◌⊕◌, ◌⊗◌, ◌⊝◌, ◌≐◌, ◌≼◌, ◌≺◌, lit}
+use Rattle.algebra.proofs.Polynomial.{minus, ◌⊕◌, ◌⊗◌, ◌≐◌, ◌≺◌, lit}
 use Rattle.algebra.proofs.Certificate.{prove, given, scaled, ◌⊞◌, ◌⊠◌, ◌⇐◌}
-use Rattle.rational.specs.Rational.{ℚ, zero_ℚ, one_ℚ, ◌+ℚ◌, ◌*ℚ◌, neg_ℚ, reciprocal}
+use Rattle.rational.specs.Rational.{ℚ, zero_ℚ, one_ℚ, ◌*ℚ◌, neg_ℚ}
 use Rattle.rational.specs.Order.{◌≤ℚ◌, ◌<ℚ◌}
 use Rattle.rational.specs.Vectors.{add_each, scale, zeros}
 use Rattle.rational.proofs.Order.{ordered_rationals, lt_irrefl, le_or_lt, le_antisymm}
-use Rattle.rational.proofs.OrderLaws.{lt-le_trans}
 use Rattle.linear_basis.specs.Lexicographic.{IsLexPositive, IsLexBelow}
 use Rattle.linear_basis.proofs.Places.{same_or_other}
 
@@ -26,8 +24,10 @@ positive-add (x ∷ u) (y ∷ v) e (inl h) (inr k) =
 positive-add (x ∷ u) (y ∷ v) e (inr h) (inl k) =
     inl (prove ordered_rationals (x ∷ y ∷ []) (λ x y. lit 0 ≺ x ⊕ y ⇐ given (lit 0 ≐ x) ⊞ given (lit 0 ≺ y)) refl (sym h.0) k)
 positive-add (x ∷ u) (y ∷ v) e (inr h) (inr k) =
-    inr (prove ordered_rationals (x ∷ y ∷ []) (λ x y. x ⊕ y ≐ lit 0 ⇐ given (x ≐ lit 0) ⊞ given (y ≐ lit 0)) refl h.0 k.0,
-    positive-add u v (omega arith) h.1 k.1)
+    inr (
+      prove ordered_rationals (x ∷ y ∷ []) (λ x y. x ⊕ y ≐ lit 0 ⇐ given (x ≐ lit 0) ⊞ given (y ≐ lit 0)) refl h.0 k.0,
+      positive-add u v (omega arith) h.1 k.1,
+    )
 
 pub positive-scale : (s : ℚ) (u : List ℚ) → zero_ℚ <ℚ s → IsLexPositive u → IsLexPositive (scale s u)
 positive-scale s [] p h = absurd h
@@ -129,8 +129,10 @@ less_multiple (x ∷ u) [] t i e p f h = absurd h
 less_multiple (x ∷ u) (y ∷ v) t i e p f (inl h) =
     inl (prove ordered_rationals (x ∷ y ∷ t ∷ i ∷ []) (λ x y t i. lit 0 ≺ y ⊕ minus t ⊗ x ⇐ (given (lit 0 ≺ t) ⊠ given (x ≺ i ⊗ y)) ⊞ scaled y (t ⊗ i) (lit 1)) refl p h f)
 less_multiple (x ∷ u) (y ∷ v) t i e p f (inr h) =
-    inr (prove ordered_rationals (x ∷ y ∷ t ∷ i ∷ []) (λ x y t i. y ⊕ minus t ⊗ x ≐ lit 0 ⇐ scaled (minus t) x (i ⊗ y) ⊞ scaled (minus y) (t ⊗ i) (lit 1)) refl h.0 f,
-    less_multiple u v t i (omega arith) p f h.1)
+    inr (
+      prove ordered_rationals (x ∷ y ∷ t ∷ i ∷ []) (λ x y t i. y ⊕ minus t ⊗ x ≐ lit 0 ⇐ scaled (minus t) x (i ⊗ y) ⊞ scaled (minus y) (t ⊗ i) (lit 1)) refl h.0 f,
+      less_multiple u v t i (omega arith) p f h.1,
+    )
 
 -- a multiple that is not below 0
 pub positive-add_multiple : (u v : List ℚ) (s : ℚ) → length u ≡ length v → zero_ℚ ≤ℚ s → IsLexPositive u → IsLexPositive v → IsLexPositive (add_each u (scale s v))
@@ -142,6 +144,7 @@ positive-add_multiple u v s e n h k = by (le_or_lt s zero_ℚ)
     unchanged (x ∷ u) (y ∷ v) e =
         ap (λ z. z ∷ add_each u (scale zero_ℚ v)) (prove ordered_rationals (x ∷ y ∷ []) (λ x y. x ⊕ lit 0 ⊗ y ≐ x ⇐ scaled (lit 0) x x) refl refl)
         ∙ ap (λ w. x ∷ w) (unchanged u v (omega arith))
+
     by : (s ≤ℚ zero_ℚ) ⊎ (zero_ℚ <ℚ s) → IsLexPositive (add_each u (scale s v))
     by (inl l) = subst (λ s. IsLexPositive (add_each u (scale s v))) (le_antisymm zero_ℚ s n l) (subst IsLexPositive (sym (unchanged u v e)) h)
     by (inr l) = positive-add u (scale s v) (e ∙ sym (Rattle.rational.proofs.Vectors.length-scale s v)) h (positive-scale s v l k)
@@ -163,31 +166,44 @@ module _ (P : ℕ → Type 0) (decide : (k : ℕ) → P k ⊎ ¬ (P k)) (q : ℕ
     where
       last : (k : ℕ) → k < suc c → (k < c) ⊎ (k ≡ c)
       last k h = grind arith
+
       by : HasLeast c → P c ⊎ ¬ (P c) → HasLeast (suc c)
       by (inl n) (inr m) = inl (λ k h. ⊎_elim (λ l. n k l) (λ e i. m (subst P e i)) (last k h))
-      by (inl n) (inl h) = inr (c, record {
+      by (inl n) (inl h) = inr (
+        c,
+        record {
           place = omega arith;
           holds = h;
           least = λ k l o i. ⊎_elim (λ s. absurd (n k s i)) (λ e. absurd (o e)) (last k l);
-        })
-      by (inr r) (inr m) = inr (r.0, record {
+        },
+      )
+      by (inr r) (inr m) = inr (
+        r.0,
+        record {
           place = let s = r.1.place in omega arith;
           holds = r.1.holds;
           least = λ k l o i. ⊎_elim (λ s. r.1.least k s o i) (λ e. absurd (m (subst P e i))) (last k l);
-        })
+        },
+      )
       by (inr r) (inl h) = compare (differ r.0 c r.1.holds h (λ e. let s = r.1.place in omega (arith, e)))
         where
           compare : IsLexBelow (q r.0) (q c) ⊎ IsLexBelow (q c) (q r.0) → HasLeast (suc c)
-          compare (inl b) = inr (r.0, record {
+          compare (inl b) = inr (
+            r.0,
+            record {
               place = let s = r.1.place in omega arith;
               holds = r.1.holds;
               least = λ k l o i. ⊎_elim (λ s. r.1.least k s o i) (λ e. subst (λ k. IsLexBelow (q r.0) (q k)) (sym e) b) (last k l);
-            })
-          compare (inr b) = inr (c, record {
+            },
+          )
+          compare (inr b) = inr (
+            c,
+            record {
               place = omega arith;
               holds = h;
               least = λ k l o i. ⊎_elim (λ s. before k s i (same_or_other k r.0)) (λ e. absurd (o e)) (last k l);
-            })
+            },
+          )
             where
               before : (k : ℕ) → k < c → P k → (k ≡ r.0) ⊎ (k ≢ r.0) → IsLexBelow (q c) (q k)
               before k s i (inl e) = subst (λ k. IsLexBelow (q c) (q k)) (sym e) b
@@ -204,6 +220,7 @@ some_least q c w some sizes differ = by (has_least Every (λ k. inl tt) q (λ k 
     apart k l n (inl r) = inl r
     apart k l n (inr (inl e)) = absurd (differ k l n e)
     apart k l n (inr (inr r)) = inr r
+
     by : HasLeast Every (λ k. inl tt) q (λ k l i o n. apart k l n (below_total (q k) (q l) (sizes k ∙ sym (sizes l)))) c → (l : ℕ) × (l < c) × ((k : ℕ) → k < c → k ≢ l → IsLexBelow (q l) (q k))
     by (inl none) = absurd (none 0 some tt)
     by (inr r) = (r.0, r.1.place, λ k i n. r.1.least k i n tt)

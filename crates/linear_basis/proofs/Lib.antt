@@ -8,4 +8,3 @@ pub mod Leaving
 pub mod Units
 pub mod Verdicts
 pub mod WorkedBasis
-

@@ -1,19 +1,18 @@
 -- The pivot formulas.
-use Rattle.std.proofs.Common.{inl, inr, ◌≡◌, ◌≢◌, refl, sym, subst, ◌∙◌, ap, ℕ, zero, suc, ◌<◌, ◌⊎◌, List, [], ◌∷◌, length, arith}
+use Rattle.std.proofs.Common.{inl, inr, ◌≡◌, ◌≢◌, refl, sym, subst, ◌∙◌, ap, ℕ, ◌<◌, ◌⊎◌, List, [], ◌∷◌, length, arith}
 use Rattle.std.specs.Prelude.{slice_set}
 use Rattle.algebra.proofs.Polynomial.{minus, ◌⊕◌, ◌⊗◌, ◌≐◌, ◌⊝◌, lit}
 use Rattle.algebra.proofs.Solver.{ring}
-use Rattle.algebra.proofs.Certificate.{prove, given, scaled, ◌⊞◌, ◌⇐◌}
+use Rattle.algebra.proofs.Certificate.{prove, scaled, ◌⇐◌}
 use Rattle.rational.specs.Rational.{ℚ, zero_ℚ, one_ℚ, ◌+ℚ◌, ◌-ℚ◌, ◌*ℚ◌, neg_ℚ, reciprocal}
 use Rattle.rational.specs.Sums.{entry}
-use Rattle.rational.specs.Vectors.{dot, add_each, scale, zeros, unit_vector, rows_dot, combine, column, row_at, HasColumns}
+use Rattle.rational.specs.Vectors.{dot, add_each, scale, unit_vector, rows_dot, combine, column, row_at, HasColumns}
 use Rattle.rational.proofs.Field.{rationals, mul-reciprocal}
 use Rattle.rational.proofs.Order.{ordered_rationals}
 use Rattle.rational.proofs.Vectors.{length-combine, length-rows_dot, length-unit_vector, length-row_at, length-scale, length-add_each, dot_comm, dot-unit_vector, dot-scale_left, dot-add_scale_left, dot-add_scale_right, same_by_dot, same_by_entries, entry-rows_dot, entry-add_each, entry-scale, entry-combine, entry-unit_vector_same, entry-unit_vector_other}
-use Rattle.exact_matrix.specs.EliminationAnswers.{right_beside}
 use Rattle.linear_basis.specs.Basis.{IsInverseOf}
-use Rattle.linear_basis.specs.Exchange.{quotient_row, shift, add_multiples, pivoted}
-use Rattle.linear_basis.proofs.Places.{same_or_other, length-slice_set, HasColumns-slice_set, row_at-set_same, row_at-set_other, column-slice_set, dot-slice_set, length-add_multiples, HasColumns-add_multiples, rows_dot-add_multiples, row_at-add_multiples}
+use Rattle.linear_basis.specs.Exchange.{quotient_row, shift, pivoted}
+use Rattle.linear_basis.proofs.Places.{same_or_other, length-slice_set, HasColumns-slice_set, row_at-set_same, row_at-set_other, column-slice_set, dot-slice_set, length-add_multiples, HasColumns-add_multiples, rows_dot-add_multiples}
 use Rattle.linear_basis.proofs.Inverses.{dot-multipliers}
 
 module _ (m : ℕ) (B N : List (List ℚ)) (h : IsInverseOf m B N) (a : List ℚ) (a_size : length a ≡ m) (l : ℕ) (place : l < m)
@@ -96,6 +95,7 @@ module _ (m : ℕ) (B N : List (List ℚ)) (h : IsInverseOf m B N) (a : List ℚ
           dot-row (row_at B i) ∙ ap (λ u. reciprocal (entry t l) *ℚ entry u l) (h.left i j)
           ∙ ap (λ s. reciprocal (entry t l) *ℚ s) (entry-unit_vector_other m i l n)
           ∙ ring rationals (reciprocal (entry t l) ∷ []) (λ r. r ⊗ lit 0 ≐ lit 0) refl
+
       at : (k : ℕ) → entry (rows_dot K (row_at B i)) k ≡ entry (unit_vector m i) k
       at k =
           let e : ℚ = entry (unit_vector m l) k +ℚ neg_ℚ one_ℚ *ℚ entry t k in
@@ -141,9 +141,11 @@ module _ (m : ℕ) (B N : List (List ℚ)) (h : IsInverseOf m B N) (a : List ℚ
     where
       col : (j : ℕ) → length (column j B) ≡ m
       col j = Rattle.rational.proofs.Vectors.length-column j B ∙ h.columns
+
       old : (j : ℕ) (u : List ℚ) → length u ≡ m → dot (column j B) (rows_dot N u) ≡ entry u j
       old j u f =
           dot_comm (column j B) (rows_dot N u) ∙ sym (entry-combine m (rows_dot N u) B j h.heights) ∙ ap (λ w. entry w j) (h.spans u f)
+
       at : (j : ℕ) → entry (combine m (rows_dot K v) C) j ≡ entry v j
       at j =
           entry-combine m (rows_dot K v) C j new_heights ∙ dot_comm (rows_dot K v) (column j C) ∙ ap (λ c. dot c (rows_dot K v)) (column-slice_set j B l a)

@@ -1,21 +1,21 @@
 -- The unit columns are a standing basis where r is at least 0.
-use Rattle.std.proofs.Common.{inl, inr, ⊎_elim, ◌≡◌, ◌≢◌, refl, sym, subst, ◌∙◌, ap, ℕ, zero, suc, ◌+◌, ◌-◌, ◌<◌, ◌≤◌, ◌⊎◌, List, [], ◌∷◌, length, arith, map, replicate}
-use Rattle.std.specs.Prelude.{All, slice_index_or}
+use Rattle.std.proofs.Common.{inl, inr, ⊎_elim, ◌≡◌, refl, sym, subst, ◌∙◌, ap, ℕ, zero, suc, ◌+◌, ◌-◌, ◌<◌, ◌≤◌, List, [], ◌∷◌, length, arith, map, replicate}
+use Rattle.std.specs.Prelude.{All}
 use Rattle.std.specs.List.{range_with_len}
 use Rattle.std.proofs.lemmas.List.Elements.{All-from_recursion, All-nil, All-cons, All-get_or}
 use Rattle.rational.specs.Rational.{ℚ, zero_ℚ, one_ℚ}
-use Rattle.rational.specs.Order.{◌≤ℚ◌, ◌<ℚ◌}
+use Rattle.rational.specs.Order.{◌≤ℚ◌}
 use Rattle.rational.specs.Sums.{entry}
 use Rattle.rational.specs.Vectors.{dot, unit_vector, rows_dot, combine, row_at, HasColumns}
 use Rattle.rational.proofs.Order.{ordered_rationals, le_or_lt, le_antisymm}
 use Rattle.algebra.proofs.Polynomial.{◌≺◌, lit}
 use Rattle.algebra.proofs.Certificate.{prove, weight, ◌⇐◌}
 use Rattle.rational.proofs.Vectors.{length-unit_vector, length-rows_dot, length-combine, dot_comm, dot-unit_vector, transpose, same_by_dot}
-use Rattle.exact_matrix.specs.EliminationAnswers.{unit_rows, unit_matrix, right_beside}
+use Rattle.exact_matrix.specs.EliminationAnswers.{unit_rows, unit_matrix}
 use Rattle.exact_matrix.proofs.EliminationVectors.{length-unit_rows, width-unit_rows, rows_dot-unit, length-right_beside}
 use Rattle.linear_basis.specs.Problem.{Problem, IsProblem, height, width, column_of, cost_of}
 use Rattle.linear_basis.specs.Lexicographic.{IsLexPositive}
-use Rattle.linear_basis.specs.Basis.{Tableau, IsBasis, IsInverseOf, IsStanding, basic_columns, basic_costs, point, multipliers, tableau_rows, unit_basis}
+use Rattle.linear_basis.specs.Basis.{IsBasis, IsInverseOf, IsStanding, basic_columns, point, multipliers, tableau_rows, unit_basis}
 use Rattle.linear_basis.proofs.Places.{row_at-beside}
 use Rattle.linear_basis.proofs.Bases.{column_of-unit, cost_of-unit}
 use Rattle.linear_basis.proofs.Leaving.{All-by_row_at}
@@ -28,6 +28,7 @@ unit_columns p a i (suc k) e =
   where
     place : (a i n : ℕ) → a ≡ n + i → a - n ≡ i
     place a i n e = omega (arith, e)
+
     next : (a i n : ℕ) → a ≡ n + i → a + 1 ≡ n + suc i
     next a i n e = omega (arith, e)
 
@@ -114,12 +115,13 @@ module _ (p : Problem) where
       rows_size =
           length-right_beside (point p (unit_basis p)) (unit_matrix (height p)) (length-rows_dot (unit_matrix (height p)) p.right)
           ∙ length-unit_rows (height p) 0 (height p)
+
       row : (k : ℕ) → k < height p → IsLexPositive (row_at (tableau_rows p (unit_basis p)) k)
       row k l =
           let N = unit_matrix (height p) in
           let e : row_at (tableau_rows p (unit_basis p)) k ≡ entry p.right k ∷ unit_vector (height p) k =
-              row_at-beside N p.right k (omega (arith, l, length-unit_rows (height p) 0 (height p)))
-              ∙ ap (λ u. dot u p.right ∷ u) (row_at-unit (height p) k l)
-              ∙ ap (λ s. s ∷ unit_vector (height p) k) (dot-unit_vector (height p) k p.right (omega arith)) in
+          row_at-beside N p.right k (omega (arith, l, length-unit_rows (height p) 0 (height p)))
+          ∙ ap (λ u. dot u p.right ∷ u) (row_at-unit (height p) k l)
+          ∙ ap (λ s. s ∷ unit_vector (height p) k) (dot-unit_vector (height p) k p.right (omega arith)) in
           let nonneg : zero_ℚ ≤ℚ entry p.right k = All-get_or (λ x. zero_ℚ ≤ℚ x) p.right k zero_ℚ l h.nonneg in
           subst IsLexPositive (sym e) (⊎_elim (λ u. inr (le_antisymm (entry p.right k) zero_ℚ u nonneg, unit_positive (height p) k l)) (λ u. inl u) (le_or_lt (entry p.right k) zero_ℚ))

@@ -1,24 +1,24 @@
 -- What a zero-cost basis and a final one say of the problem.
 use Rattle.std.proofs.Common.{inl, inr, ⊎_elim, ◌≡◌, ◌≢◌, refl, sym, subst, ◌∙◌, ap, ℕ, zero, suc, ◌<◌, ◌≤◌, ◌⊎◌, List, [], ◌∷◌, length, arith, map}
-use Rattle.std.specs.Prelude.{All, slice_index_or, ◌↔◌}
-use Rattle.std.proofs.lemmas.List.Elements.{All-get_or, All-head, All-tail, All-from_get_or}
+use Rattle.std.specs.Prelude.{slice_index_or}
+use Rattle.std.proofs.lemmas.List.Elements.{All-get_or, All-from_get_or}
 use Rattle.algebra.proofs.Ring as laws
 use Rattle.algebra.proofs.Polynomial.{minus, ◌⊕◌, ◌⊗◌, ◌⊝◌, ◌≐◌, ◌≼◌, ◌≺◌, lit}
 use Rattle.algebra.proofs.Solver.{ring}
 use Rattle.algebra.proofs.Certificate.{prove, given, scaled, ◌⊞◌, ◌⊠◌, ◌⇐◌}
-use Rattle.rational.specs.Rational.{ℚ, zero_ℚ, one_ℚ, ◌+ℚ◌, ◌-ℚ◌, ◌*ℚ◌, neg_ℚ}
+use Rattle.rational.specs.Rational.{ℚ, zero_ℚ, one_ℚ, ◌+ℚ◌, ◌*ℚ◌, neg_ℚ}
 use Rattle.rational.specs.Order.{◌≤ℚ◌, ◌<ℚ◌}
 use Rattle.rational.specs.Sums.{entry}
-use Rattle.rational.specs.Vectors.{dot, add_each, scale, zeros, unit_vector, rows_dot, combine, column, row_at, put_at, HasColumns}
+use Rattle.rational.specs.Vectors.{dot, scale, unit_vector, rows_dot, combine, column, row_at, put_at, HasColumns}
 use Rattle.rational.proofs.Field.{rationals}
-use Rattle.rational.proofs.Order.{ordered_rationals, lt_irrefl, le_or_lt, le_refl, le_antisymm}
+use Rattle.rational.proofs.Order.{ordered_rationals, le_or_lt, le_refl, le_antisymm}
 use Rattle.rational.proofs.OrderLaws.{not-le_of_lt, le_of_eq}
 use Rattle.rational.proofs.Vectors.{length-rows_dot, length-combine, length-unit_vector, length-scale, length-add_each, dot_comm, dot-nil_right, dot-zeros_right, dot-unit_vector, dot-add_scale_right, dot-scale_left, dot-add_left, transpose, same_by_dot, entry-combine, entry-zeros, entry-add_each, entry-scale, entry-unit_vector_same, entry-unit_vector_other}
 use Rattle.rational.proofs.Supports.{length-put_at}
 use Rattle.exact_matrix.proofs.EliminationVectors.{length-right_beside}
-use Rattle.linear_basis.specs.Problem.{Problem, IsProblem, height, width, column_of, cost_of, IsSolution, IsFarkas}
+use Rattle.linear_basis.specs.Problem.{Problem, IsProblem, height, column_of, cost_of, IsSolution, IsFarkas}
 use Rattle.linear_basis.specs.Lexicographic.{IsLexPositive}
-use Rattle.linear_basis.specs.Basis.{Tableau, IsBasis, IsStanding, basic_columns, basic_costs, point, multipliers, price, level, tableau_rows, IsZeroCost, IsFinal, solution_of, farkas_of}
+use Rattle.linear_basis.specs.Basis.{Tableau, IsBasis, IsStanding, basic_columns, basic_costs, point, multipliers, price, tableau_rows, IsZeroCost, IsFinal, solution_of, farkas_of}
 use Rattle.linear_basis.proofs.Places.{same_or_other, row_at-beside}
 use Rattle.linear_basis.proofs.Inverses.{dot-multipliers}
 use Rattle.linear_basis.proofs.Bases.{size, costs_size, point_size, multipliers_size, cost_of-given, cost_of-unit, column_of-given, given_or_unit, entry-map, point_sums}
@@ -81,8 +81,8 @@ put_at_nonneg n [] x h i l = le_of_eq (sym (entry-zeros n i))
 put_at_nonneg n (j ∷ s) [] h i l = le_of_eq (sym (entry-zeros n i))
 put_at_nonneg n (j ∷ s) (y ∷ x) h i l =
     let e : entry (put_at n (j ∷ s) (y ∷ x)) i ≡ y *ℚ entry (unit_vector n j) i +ℚ entry (put_at n s x) i =
-        entry-add_each (scale y (unit_vector n j)) (put_at n s x) i (length-scale y (unit_vector n j) ∙ length-unit_vector n j ∙ sym (length-put_at n s x))
-        ∙ ap (λ t. t +ℚ entry (put_at n s x) i) (entry-scale y (unit_vector n j) i) in
+    entry-add_each (scale y (unit_vector n j)) (put_at n s x) i (length-scale y (unit_vector n j) ∙ length-unit_vector n j ∙ sym (length-put_at n s x))
+    ∙ ap (λ t. t +ℚ entry (put_at n s x) i) (entry-scale y (unit_vector n j) i) in
     subst (λ z. zero_ℚ ≤ℚ z) (sym e)
     (prove ordered_rationals (y ∷ entry (unit_vector n j) i ∷ entry (put_at n s x) i ∷ [])
     (λ y u z. lit 0 ≼ y ⊗ u ⊕ z ⇐ (given (lit 0 ≼ y) ⊠ given (lit 0 ≼ u)) ⊞ given (lit 0 ≼ z)) refl
@@ -116,7 +116,7 @@ module _ (p : Problem) (b : Tableau) (h : IsBasis p b) (standing : IsStanding p 
   point_nonneg k l =
       let q : k < length b.inverse = omega (arith, l, h.inverse.rows) in
       let e : row_at (tableau_rows p b) k ≡ entry (point p b) k ∷ row_at b.inverse k =
-          row_at-beside b.inverse p.right k q ∙ ap (λ s. s ∷ row_at b.inverse k) (sym (Rattle.rational.proofs.Vectors.entry-rows_dot b.inverse p.right k)) in
+      row_at-beside b.inverse p.right k q ∙ ap (λ s. s ∷ row_at b.inverse k) (sym (Rattle.rational.proofs.Vectors.entry-rows_dot b.inverse p.right k)) in
       first_nonneg (entry (point p b) k) (row_at b.inverse k)
       (subst IsLexPositive e (All-row_at IsLexPositive (tableau_rows p b) k (omega (arith, l, rows_size)) standing))
 
@@ -185,11 +185,12 @@ module _ (p : Problem) (b : Tableau) (h : IsBasis p b) (standing : IsStanding p 
         negated [] v = ring rationals [] (lit 0 ≐ minus (lit 0)) refl
         negated (x ∷ u) [] = ring rationals [] (lit 0 ≐ minus (lit 0)) refl
         negated (x ∷ u) (y ∷ v) = ap (λ t. neg_ℚ x *ℚ y +ℚ t) (negated u v) ∙ ring rationals (x ∷ y ∷ dot u v ∷ []) (λ x y t. minus x ⊗ y ⊕ minus t ≐ minus (x ⊗ y ⊕ t)) refl
+
         at : (j : ℕ) → j < p.given → zero_ℚ ≤ℚ entry (combine p.given (farkas_of p b) p.rows) j
         at j l =
             let e : entry (combine p.given (farkas_of p b) p.rows) j ≡ neg_ℚ (dot (multipliers p b) (column_of p j)) =
-                entry-combine p.given (farkas_of p b) p.rows j problem.columns ∙ negated (multipliers p b) (column j p.rows)
-                ∙ ap (λ c. neg_ℚ (dot (multipliers p b) c)) (sym (column_of-given p j l)) in
+            entry-combine p.given (farkas_of p b) p.rows j problem.columns ∙ negated (multipliers p b) (column j p.rows)
+            ∙ ap (λ c. neg_ℚ (dot (multipliers p b) c)) (sym (column_of-given p j l)) in
             let not_below : zero_ℚ ≤ℚ price p b j = ⊎_elim (λ u. u) (λ u. absurd (f.prices j l u)) (le_or_lt zero_ℚ (price p b j)) in
             subst (λ s. zero_ℚ ≤ℚ s) (sym e) (prove ordered_rationals (cost_of p j ∷ dot (multipliers p b) (column_of p j) ∷ [])
             (λ c s. lit 0 ≼ minus s ⇐ given (lit 0 ≼ c ⊝ s) ⊞ given (c ≐ lit 0)) refl not_below (cost_of-given p j l))
@@ -199,7 +200,7 @@ pub not_both : (p : Problem) (z y : List ℚ) → IsProblem p → IsSolution p z
 not_both p z y problem s f =
     let e : dot y p.right ≡ dot (combine p.given y p.rows) z = ap (dot y) (sym s.same) ∙ transpose p.given y p.rows z problem.columns in
     let n : zero_ℚ ≤ℚ dot (combine p.given y p.rows) z = dot-nonneg (combine p.given y p.rows) z (λ k l.
-        prove ordered_rationals (entry (combine p.given y p.rows) k ∷ entry z k ∷ []) (λ a x. lit 0 ≼ a ⊗ x ⇐ given (lit 0 ≼ a) ⊠ given (lit 0 ≼ x)) refl
-        (All-get_or (λ x. zero_ℚ ≤ℚ x) (combine p.given y p.rows) k zero_ℚ (omega (arith, l, s.size, length-combine p.given y p.rows problem.columns)) f.nonneg)
-        (All-get_or (λ x. zero_ℚ ≤ℚ x) z k zero_ℚ l s.nonneg)) in
+    prove ordered_rationals (entry (combine p.given y p.rows) k ∷ entry z k ∷ []) (λ a x. lit 0 ≼ a ⊗ x ⇐ given (lit 0 ≼ a) ⊠ given (lit 0 ≼ x)) refl
+    (All-get_or (λ x. zero_ℚ ≤ℚ x) (combine p.given y p.rows) k zero_ℚ (omega (arith, l, s.size, length-combine p.given y p.rows problem.columns)) f.nonneg)
+    (All-get_or (λ x. zero_ℚ ≤ℚ x) z k zero_ℚ l s.nonneg)) in
     not-le_of_lt f.below (subst (λ s. zero_ℚ ≤ℚ s) (sym e) n)

@@ -2,7 +2,7 @@
 use Rattle.std.specs.Prelude.{◌≡◌, ℕ, ℤ, pos, List, [], ◌∷◌, map}
 use Rattle.std.proofs.Common.{refl}
 use Rattle.rational.specs.Divisors.{gcd_of}
-use Rattle.rational.specs.Rational.{ℚ, whole, ratio, neg_ℚ, reciprocal, same_ℚ, ◌+ℚ◌, ◌*ℚ◌}
+use Rattle.rational.specs.Rational.{ℚ, whole, ratio, neg_ℚ, reciprocal, ◌+ℚ◌, ◌*ℚ◌}
 use Rattle.frac_core.specs.declared.fractions.Op.{Op}
 use Rattle.frac_core.specs.declared.fractions.Op.TheVariants.{Add, Sub, Mul, Div}
 use Rattle.frac_core.specs.declared.fractions.Refused.{Refused}
@@ -12,7 +12,7 @@ use Rattle.exact_matrix.specs.Elimination.{pivot_row, with_pivot, freed, step, e
 use Rattle.exact_matrix.specs.EliminationOperations.{division_ops, less_ops, freed_ops, each_freed_ops, step_ops, ops_from}
 use Rattle.linear_basis.specs.Problem.{Problem}
 use Rattle.linear_basis.specs.Basis.{Tableau, point, multipliers, price, level, unit_basis}
-use Rattle.linear_basis.specs.Exchange.{coordinates, exchanged}
+use Rattle.linear_basis.specs.Exchange.{exchanged}
 use Rattle.linear_basis.specs.Operations.{basis_ops}
 
 abbrev n : ℕ → ℚ

@@ -1,5 +1,5 @@
 -- An exchange: a column comes into the basis in the place of another one. And the rule that says in which place.
-use Rattle.std.specs.Prelude.{◌≡◌, ◌≢◌, ℕ, ◌<◌, List, [], ◌∷◌, slice_set}
+use Rattle.std.specs.Prelude.{◌≢◌, ℕ, ◌<◌, List, [], ◌∷◌, slice_set}
 use Rattle.rational.specs.Rational.{ℚ, zero_ℚ, one_ℚ, neg_ℚ, reciprocal}
 use Rattle.rational.specs.Order.{◌<ℚ◌}
 use Rattle.rational.specs.Sums.{entry}

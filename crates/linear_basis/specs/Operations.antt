@@ -1,7 +1,7 @@
 -- The operations of the calculation of a basis, in order.
-use Rattle.std.specs.Prelude.{ℕ, List, [], ◌∷◌, ◌++◌, map, length, if◌then◌else◌}
+use Rattle.std.specs.Prelude.{ℕ, List, [], ◌∷◌, ◌++◌, map, if◌then◌else◌}
 use Rattle.std.specs.List.{range_with_len}
-use Rattle.rational.specs.Rational.{ℚ, zero_ℚ, ◌-ℚ◌}
+use Rattle.rational.specs.Rational.{ℚ, zero_ℚ}
 use Rattle.rational.specs.Order.{rational_cmp}
 use Rattle.std.specs.Ordering.{is_lt}
 use Rattle.rational.specs.Vectors.{dot, column}

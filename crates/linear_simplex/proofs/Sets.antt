@@ -1,8 +1,8 @@
 -- Sets of columns as numbers, and how many different numbers there are below a bound.
-use Rattle.std.proofs.Common.{inl, inr, ⊎_elim, ◌≡◌, ◌≢◌, refl, sym, subst, ◌∙◌, ap, ℕ, zero, suc, ◌+◌, ◌*◌, ◌<◌, ◌≤◌, ◌⊎◌, List, [], ◌∷◌, length, arith, map}
+use Rattle.std.proofs.Common.{inl, inr, ◌≡◌, ◌≢◌, sym, subst, ℕ, zero, suc, ◌+◌, ◌<◌, ◌≤◌, ◌⊎◌, List, [], ◌∷◌, length, arith}
 use Rattle.std.specs.Prelude.{◌^◌, Contains, All, slice_index_or, ◌↔◌}
 use Rattle.std.specs.List.{AllByRecursion}
-use Rattle.std.proofs.lemmas.List.Elements.{recursion_from_All, All-from_recursion, All-contains}
+use Rattle.std.proofs.lemmas.List.Elements.{All-contains}
 use Rattle.linear_basis.proofs.Places.{same_or_other}
 
 -- ---- different numbers below a bound
@@ -37,6 +37,7 @@ without k (x ∷ xs) d h = by (same_or_other x k) (without k xs d.1 h.1)
   where
     at : (x k : ℕ) → x < suc k → x ≢ k → x < k
     at x k l m = grind arith
+
     by : (x ≡ k) ⊎ (x ≢ k) → Without k xs → Without k (x ∷ xs)
     by (inl e) r = record {
       left = xs;
@@ -73,6 +74,7 @@ contains_or (x ∷ xs) j = by (same_or_other x j) (contains_or xs j)
     none : x ≢ j → ¬ (Contains xs j) → (k : ℕ) → k < length (x ∷ xs) → slice_index_or (x ∷ xs) k j ≡ j → ⊥
     none n m zero l e = n e
     none n m (suc k) l e = m (k, omega arith, e)
+
     by : (x ≡ j) ⊎ (x ≢ j) → Contains xs j ⊎ ¬ (Contains xs j) → Contains (x ∷ xs) j ⊎ ¬ (Contains (x ∷ xs) j)
     by (inl e) s = inl (0, omega arith, e)
     by (inr n) (inl c) = let l = c.1 in inl (suc c.0, omega arith, c.2)
@@ -115,10 +117,13 @@ same_code (suc k) xs ys e j l = by (same_or_other j k) (λ n. same_code k xs ys
   where
     halves : (c d a b : ℕ) → a ≤ 1 → b ≤ 1 → c + c + a ≡ d + d + b → c ≡ d
     halves c d a b h i e = omega (arith, e)
+
     digits : (c d a b : ℕ) → a ≤ 1 → b ≤ 1 → c + c + a ≡ d + d + b → a ≡ b
     digits c d a b h i e = omega (arith, e)
+
     at : (j k : ℕ) → j < suc k → j ≢ k → j < k
     at j k l n = grind arith
+
     by : (j ≡ k) ⊎ (j ≢ k) → ((j ≢ k) → Contains xs j ↔ Contains ys j) → Contains xs j ↔ Contains ys j
     by (inl f) lower = subst (λ j. Contains xs j ↔ Contains ys j) (sym f) (same_bit (contains_or xs k) (contains_or ys k)
         (digits (code k xs) (code k ys) (bit (contains_or xs k)) (bit (contains_or ys k)) (bit_below (contains_or xs k)) (bit_below (contains_or ys k)) e))

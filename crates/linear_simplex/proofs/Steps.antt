@@ -1,16 +1,16 @@
 -- The laws of chains.
-use Rattle.std.proofs.Common.{inl, inr, ⊎_elim, ◌≡◌, ◌≢◌, refl, sym, subst, ◌∙◌, ap, ℕ, zero, suc, ◌+◌, ◌<◌, ◌≤◌, ◌⊎◌, List, [], ◌∷◌, length, arith, map}
+use Rattle.std.proofs.Common.{inl, inr, ⊎_elim, ◌≡◌, ◌≢◌, refl, sym, subst, ℕ, zero, suc, ◌+◌, ◌<◌, ◌≤◌, ◌⊎◌, List, [], ◌∷◌, length, arith, map}
 use Rattle.std.specs.Prelude.{◌^◌, All, AllPairs}
 use Rattle.std.specs.List.{AllByRecursion}
-use Rattle.std.proofs.lemmas.List.Elements.{All-nil, All-cons, All-head, All-tail, All-weaker, recursion_from_All}
+use Rattle.std.proofs.lemmas.List.Elements.{All-nil, All-cons, All-weaker, recursion_from_All}
 use Rattle.std.proofs.lemmas.List.Kept.{AllPairs-cons}
 use Rattle.rational.specs.Rational.{zero_ℚ}
 use Rattle.rational.specs.Order.{◌<ℚ◌, ◌≤ℚ◌}
 use Rattle.rational.proofs.Order.{le_or_lt}
 use Rattle.rational.proofs.OrderLaws.{not-le_of_lt}
-use Rattle.linear_basis.specs.Problem.{Problem, IsProblem, height, width}
+use Rattle.linear_basis.specs.Problem.{Problem, IsProblem, width}
 use Rattle.linear_basis.specs.Lexicographic.{IsLexBelow}
-use Rattle.linear_basis.specs.Basis.{Tableau, IsBasis, IsStanding, IsZeroCost, IsFinal, HasSameColumns, price, level, unit_basis}
+use Rattle.linear_basis.specs.Basis.{Tableau, IsBasis, IsStanding, IsZeroCost, IsFinal, HasSameColumns, price, level}
 use Rattle.linear_basis.specs.Exchange.{IsLeaving, exchanged}
 use Rattle.linear_basis.proofs.Bases.{length-mapped, same_level}
 use Rattle.linear_basis.proofs.Changes.{exchange_basis}
@@ -18,7 +18,7 @@ use Rattle.linear_basis.proofs.Leaving.{some_place, stays_standing, level_falls}
 use Rattle.linear_basis.proofs.Units.{units_basis, units_standing}
 use Rattle.linear_basis.proofs.Lexicographic.{below_trans, below_irrefl}
 use Rattle.rational.proofs.OrderLaws.{ne_of_lt}
-use Rattle.linear_simplex.specs.Chain.{IsEntering, IsStrictStep, IsChain, IsSpent, EndsChain}
+use Rattle.linear_simplex.specs.Chain.{IsEntering, IsStrictStep, IsChain, IsSpent}
 use Rattle.linear_simplex.proofs.Sets.{code, code_below, same_sets, few, AreDistinct, AreBelow}
 
 module _ (p : Problem) where
@@ -92,10 +92,11 @@ module _ (p : Problem) where
   numbers_distinct : (bs : List Tableau) → IsChain p bs → AreDistinct (map number bs)
   numbers_distinct [] h = absurd h
   numbers_distinct (b ∷ []) h = (tt, tt)
-  numbers_distinct (b ∷ c ∷ bs) h =
-      (avoids b h.0.basis (c ∷ bs) (recursion_from_All (IsBasis p) (c ∷ bs) (all_bases (c ∷ bs) h.1))
-      (recursion_from_All (Differ b) (c ∷ bs) (later_differ b h.0.basis (c ∷ bs) (all_bases (c ∷ bs) h.1) (later_lower b (c ∷ bs) h))),
-      numbers_distinct (c ∷ bs) h.1)
+  numbers_distinct (b ∷ c ∷ bs) h = (
+    avoids b h.0.basis (c ∷ bs) (recursion_from_All (IsBasis p) (c ∷ bs) (all_bases (c ∷ bs) h.1))
+        (recursion_from_All (Differ b) (c ∷ bs) (later_differ b h.0.basis (c ∷ bs) (all_bases (c ∷ bs) h.1) (later_lower b (c ∷ bs) h))),
+    numbers_distinct (c ∷ bs) h.1,
+  )
 
   numbers_below : (bs : List Tableau) → AreBelow (2 ^ width p) (map number bs)
   numbers_below [] = tt
@@ -115,6 +116,7 @@ module _ (p : Problem) where
     where
       last : (k : ℕ) → k < suc c → (k < c) ⊎ (k ≡ c)
       last k h = grind arith
+
       by : Found b c → (zero_ℚ ≤ℚ price p b c) ⊎ (price p b c <ℚ zero_ℚ) → Found b (suc c)
       by (inr r) u = let l = r.1 in inr (r.0, omega arith, r.2, r.3)
       by (inl n) (inl u) = inl (λ j h. ⊎_elim (n j) (λ e f. not-le_of_lt (subst (λ j. price p b j <ℚ zero_ℚ) e f) u) (last j h))

@@ -7,5 +7,11 @@ use Rattle.linear_basis.proofs.laws.basis_gives_its_columns.Goals as goal
 pub returns : goal.returns
 returns c = record {
   independent = λ p b h. independent (height p) (basic_columns p b) b.inverse h.inverse;
-  inverse = inverse_only; point = point_sums; costs = basic_cost; prices = basic_price; only = only_multipliers; same = same_multipliers; level = same_level;
+  inverse = inverse_only;
+  point = point_sums;
+  costs = basic_cost;
+  prices = basic_price;
+  only = only_multipliers;
+  same = same_multipliers;
+  level = same_level;
 }
