@@ -8,3 +8,4 @@ pub mod Leaving
 pub mod Units
 pub mod Verdicts
 pub mod WorkedBasis
+pub mod Eliminated

@@ -1,12 +1,14 @@
 //! What a basis gives.
 
 ghost use Rattle.linear_basis.specs.Basis.{HasSameColumns, IsBasis, IsFinal, IsInverseOf, IsStanding, IsZeroCost, Tableau, basic_columns, farkas_of, level, multipliers, point, price, solution_of, unit_basis};
-ghost use Rattle.linear_basis.specs.Problem.{IsFarkas, IsProblem, IsSolution, Problem, column_of, cost_of, height};
+ghost use Rattle.linear_basis.specs.Problem.{IsFarkas, IsProblem, IsSolution, Problem, column_of, cost_of, height, width};
 ghost use Rattle.rational.specs.Order.{◌≤ℚ◌, ◌<ℚ◌};
 ghost use Rattle.rational.specs.Rational.{ℚ, one_ℚ, zero_ℚ};
 ghost use Rattle.rational.specs.Sums.{entry};
 ghost use Rattle.rational.specs.Vectors.{combine, dot, zeros};
-ghost use Rattle.std.specs.Prelude.{◌≡◌, ◌<◌, ◌↔◌, ℕ, Contains, List, length, replicate};
+ghost use Rattle.std.specs.Prelude.{◌≡◌, ◌<◌, ◌↔◌, ℕ, All, Contains, List, Some, length, replicate};
+ghost use Rattle.linear_basis.specs.Operations.{basic_matrix};
+ghost use Rattle.exact_matrix.specs.EliminationAnswers.{inverse};
 
 /// The columns of a basis are independent and have one inverse; its point sums them to r. Its multipliers
 /// give each of them its cost, so their prices are 0, and no others do: they and the level depend on the
@@ -20,6 +22,13 @@ pub fn basis_gives_its_columns()
     ensures only { (p : Problem) (b : Tableau) → IsBasis p b → (y : List ℚ) → length y ≡ height p → ((j : ℕ) → Contains b.columns j → dot y (column_of p j) ≡ cost_of p j) → y ≡ multipliers p b }
     ensures same { (p : Problem) (b c : Tableau) → IsBasis p b → IsBasis p c → HasSameColumns b c → multipliers p b ≡ multipliers p c }
     ensures level { (p : Problem) (b c : Tableau) → IsBasis p b → IsBasis p c → HasSameColumns b c → level p b ≡ level p c }
+{}
+
+/// The elimination of the basic columns gives the inverse of a basis, whatever way led to it; and where it
+/// gives one, the columns are a basis with it.
+pub fn elimination_gives_the_inverse()
+    ensures inverse { (p : Problem) (b : Tableau) → IsBasis p b → inverse (height p) (basic_matrix p b) ≡ Some b.inverse }
+    ensures basis { (p : Problem) (b : Tableau) → IsProblem p → length b.columns ≡ height p → All (λ j. j < width p) b.columns → inverse (height p) (basic_matrix p b) ≡ Some b.inverse → IsBasis p b }
 {}
 
 /// The unit columns are a standing basis, with r as its point and all multipliers 1.
