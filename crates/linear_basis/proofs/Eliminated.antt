@@ -1,14 +1,13 @@
 -- The elimination of the basic columns gives their inverse.
-use Rattle.std.proofs.Common.{◌≡◌, refl, sym, subst, ◌∙◌, ap, ℕ, zero, suc, ◌+◌, ◌<◌, List, [], ◌∷◌, length, arith, map}
+use Rattle.std.proofs.Common.{◌≡◌, sym, subst, ◌∙◌, ap, ℕ, ◌+◌, ◌<◌, List, length, arith, map}
 use Rattle.std.specs.Prelude.{All, slice_index_or, Option, Some, None}
-use Rattle.std.specs.List.{range_with_len}
 use Rattle.std.proofs.lemmas.List.FromFn.{length-range_with_len, get_or-range_with_len}
-use Rattle.rational.specs.Rational.{ℚ, zero_ℚ}
+use Rattle.rational.specs.Rational.{ℚ}
 use Rattle.rational.specs.Sums.{entry}
 use Rattle.rational.specs.Vectors.{dot, zeros, unit_vector, rows_dot, combine, column, row_at, HasColumns}
 use Rattle.rational.proofs.Vectors.{length-combine, length-rows_dot, length-unit_vector, length-row_at, length-column, dot_comm, dot-unit_vector, same_by_entries, entry-rows_dot, entry-combine, entry-column}
 use Rattle.exact_matrix.specs.EliminationAnswers.{inverse}
-use Rattle.exact_matrix.specs.EliminationMeaning.{IsInverse, IsInverseOrDepends, Depends}
+use Rattle.exact_matrix.specs.EliminationMeaning.{IsInverse, IsInverseOrDepends}
 use Rattle.exact_matrix.proofs.EliminationInverted.{inverse_or_depends}
 use Rattle.linear_basis.specs.Problem.{Problem, IsProblem, height, width, column_of}
 use Rattle.linear_basis.specs.Basis.{Tableau, IsBasis, IsInverseOf, basic_columns}
@@ -84,6 +83,7 @@ eliminated_basis p b problem e within f = record {
   where
     size : length (basic_columns p b) ≡ height p
     size = length-mapped (column_of p) b.columns ∙ e
+
     heights : HasColumns (height p) (basic_columns p b)
     heights = All-by_row_at (λ r. length r ≡ height p) (basic_columns p b) (λ k l.
         ap length (row_at-map (column_of p) b.columns k 0 (omega (arith, l, length-mapped (column_of p) b.columns)))

@@ -9,3 +9,4 @@ pub mod Units
 pub mod Verdicts
 pub mod WorkedBasis
 pub mod Eliminated
+pub mod Only

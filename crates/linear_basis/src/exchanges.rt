@@ -36,9 +36,10 @@ pub fn one_place_leaves()
     ensures ties { (p : Problem) (b : Tableau) → IsBasis p b → (j k l : ℕ) → k < height p → l < height p → k ≢ l → zero_ℚ <ℚ entry (coordinates p b j) k → zero_ℚ <ℚ entry (coordinates p b j) l → ¬ (quotient_row (coordinates p b j) (tableau_rows p b) k ≡ quotient_row (coordinates p b j) (tableau_rows p b) l) }
 {}
 
-/// The exchange at the place that leaves keeps a standing basis standing; and where the column that comes
-/// in has a price below 0, the level falls.
+/// The exchange at the place that leaves keeps a standing basis standing, and no other exchange of this
+/// column does; and where the column that comes in has a price below 0, the level falls.
 pub fn exchange_keeps_standing()
     ensures standing { (p : Problem) (b : Tableau) → IsProblem p → IsBasis p b → (j l : ℕ) → j < width p → IsLeaving p b j l → IsStanding p b → IsStanding p (exchanged p b j l) }
+    ensures only { (p : Problem) (b : Tableau) → IsProblem p → IsBasis p b → IsStanding p b → (j l : ℕ) → j < width p → l < height p → ¬ (entry (coordinates p b j) l ≡ zero_ℚ) → IsStanding p (exchanged p b j l) → IsLeaving p b j l }
     ensures falls { (p : Problem) (b : Tableau) → IsProblem p → IsBasis p b → (j l : ℕ) → j < width p → IsLeaving p b j l → IsStanding p b → price p b j <ℚ zero_ℚ → IsLexBelow (level p (exchanged p b j l)) (level p b) }
 {}

@@ -6,7 +6,7 @@ ghost use Rattle.linear_basis.specs.Lexicographic.{IsLexBelow};
 ghost use Rattle.linear_basis.specs.Problem.{IsFarkas, IsProblem, IsSolution, Problem, width};
 ghost use Rattle.linear_basis.specs.Basis.{farkas_of, solution_of};
 ghost use Rattle.linear_simplex.specs.Chain.{EndsWithin, IsChain, IsEntering, IsSpent, IsStrictStep};
-ghost use Rattle.std.specs.Prelude.{◌+◌, ◌≤◌, ◌^◌, ℕ, List, ◌∷◌, length, All, AllPairs};
+ghost use Rattle.std.specs.Prelude.{◌≡◌, ◌+◌, ◌≤◌, ◌^◌, ℕ, List, ◌∷◌, length, All, AllPairs};
 
 /// Each list in a chain is a standing basis, and none but the last is zero-cost.
 pub fn chain_holds_standing_bases()
@@ -27,6 +27,14 @@ pub fn chain_goes_on()
     ensures enters { (p : Problem) (b : Tableau) → ¬ (IsZeroCost p b) → ¬ (IsFinal p b) → (j : ℕ) × IsEntering p b j }
     ensures rule { (p : Problem) (b : Tableau) (j l : ℕ) → IsProblem p → IsBasis p b → IsStanding p b → ¬ (IsZeroCost p b) → IsEntering p b j → IsLeaving p b j l → IsStrictStep p b (exchanged p b j l) }
     ensures some { (p : Problem) (b : Tableau) → IsProblem p → IsBasis p b → IsStanding p b → ¬ (IsZeroCost p b) → ¬ (IsFinal p b) → (c : Tableau) × IsStrictStep p b c }
+{}
+
+/// From a standing basis there is at most one strict step, the exchange by the lexicographic ratio rule; so
+/// a problem has at most one chain of each length, and each chain goes on from the shorter ones.
+pub fn chains_are_determined()
+    ensures rule { (p : Problem) (b c : Tableau) → IsProblem p → IsBasis p b → IsStanding p b → IsStrictStep p b c → (j : ℕ) × (l : ℕ) × IsLeaving p b j l × (c ≡ exchanged p b j l) }
+    ensures step { (p : Problem) (b c d : Tableau) → IsProblem p → IsBasis p b → IsStanding p b → IsStrictStep p b c → IsStrictStep p b d → c ≡ d }
+    ensures chain { (p : Problem) (one other : List Tableau) → IsProblem p → IsChain p one → IsChain p other → length one ≡ length other → one ≡ other }
 {}
 
 /// A chain has at most as many bases as there are sets of columns. So a budget can be used up only where

@@ -4,6 +4,6 @@
 mod chains;
 
 pub use chains::{
-    bases_of_a_chain_differ, chain_goes_on, chain_holds_standing_bases, chains_are_short,
-    chains_tell_one_verdict,
+    bases_of_a_chain_differ, chain_goes_on, chain_holds_standing_bases, chains_are_determined,
+    chains_are_short, chains_tell_one_verdict,
 };
