@@ -11,7 +11,7 @@ use Rattle.frac_core.specs.Dot.{place_ops, dot_ops_from}
 use Rattle.exact_matrix.specs.Elimination.{pivot_row, with_pivot, freed, step, eliminated_from}
 use Rattle.exact_matrix.specs.EliminationOperations.{division_ops, less_ops, freed_ops, each_freed_ops, step_ops, ops_from}
 use Rattle.linear_basis.specs.Problem.{Problem}
-use Rattle.linear_basis.specs.Basis.{Tableau, point, multipliers, price, level, unit_basis}
+use Rattle.linear_basis.specs.Basis.{Tableau, point, multipliers, price, level, unit_basis, farkas_of}
 use Rattle.linear_basis.specs.Exchange.{exchanged}
 use Rattle.linear_basis.specs.Operations.{basis_ops}
 
@@ -54,6 +54,28 @@ values = refl
 costs : parts (multipliers worked after) ≡ parts (n 0 ∷ [])
 unfolding ◌+ℚ◌ ◌*ℚ◌ neg_ℚ ratio gcd_of whole reciprocal
 costs = refl
+
+-- the rows (1) and (1) with the right sides 1 and 2: one exchange leads to a final basis, and its negated multipliers are (1, -1)
+abbrev refuted : Problem
+refuted = record { given = 1; rows = (n 1 ∷ []) ∷ (n 1 ∷ []) ∷ []; right = n 1 ∷ n 2 ∷ [] }
+
+abbrev final : Tableau
+final = exchanged refuted (unit_basis refuted) 0 0
+
+final_columns : final.columns ≡ 0 ∷ 2 ∷ []
+final_columns = refl
+
+final_values : parts (point refuted final) ≡ parts (n 1 ∷ n 1 ∷ [])
+unfolding ◌+ℚ◌ ◌*ℚ◌ neg_ℚ ratio gcd_of whole reciprocal
+final_values = refl
+
+final_price : parts (price refuted final 0 ∷ []) ≡ parts (n 0 ∷ [])
+unfolding ◌+ℚ◌ ◌*ℚ◌ neg_ℚ ratio gcd_of whole reciprocal
+final_price = refl
+
+final_farkas : parts (farkas_of refuted final) ≡ parts (n 1 ∷ neg_ℚ (n 1) ∷ [])
+unfolding ◌+ℚ◌ ◌*ℚ◌ neg_ℚ ratio gcd_of whole reciprocal
+final_farkas = refl
 
 -- the operations of the first calculation: the elimination of 1 with 2 and the unit vector; 1 by 2; 1 by 1; for each column its
 -- product with the multipliers and its price; for each its coordinate; for each the two quotients
