@@ -1,0 +1,5 @@
+pub mod Problem
+pub mod Basis
+pub mod Exchange
+pub mod Lexicographic
+pub mod Operations
