@@ -15,7 +15,7 @@ use check_law::Checked;
 use check_steps::is_positive;
 use frac_core::{Frac, Memory, Vector};
 use program_law::{Column, Row, Square, Squares};
-use program_model::{Name, Program, is_marker, is_row};
+use program_model::{AddFault, Name, Program, is_marker, is_row};
 use std::alloc::Global;
 use std::test::Fail;
 
@@ -151,20 +151,29 @@ fn start(alloc: Global) -> Result<Program, Fail> {
     Ok(Program::start(alloc, objective)?)
 }
 
-fn add_row(
-    p: &mut Program,
-    alloc: Global,
-    letter: u8,
-    low: Option<Frac>,
-    high: Option<Frac>,
-) -> Result<(), Fail> {
-    let name = name(alloc, letter)?;
-    let row = Row { low, high };
-    if is_marker(name.bytes()) || !is_row(&row) {
-        return Err(Fail::new("no row"));
+fn add_row(p: &mut Program, alloc: Global, letter: u8, row: Row) -> Result<u32, AddFault> {
+    let Ok(name) = Name::of(alloc, &[letter]) else {
+        return Err(AddFault::Memory);
+    };
+    if is_row(&row) && !is_marker(name.bytes()) {
+        p.add_row(name, row)
+    } else {
+        Err(AddFault::Memory)
     }
-    p.add_row(name, Row { low, high })?;
-    Ok(())
+}
+
+fn at_most(high: i128) -> Row {
+    Row {
+        low: None,
+        high: Some(whole(high)),
+    }
+}
+
+fn at_least(low: i128) -> Row {
+    Row {
+        low: Some(whole(low)),
+        high: None,
+    }
 }
 
 fn add_column(
@@ -205,8 +214,8 @@ fn set_cost(p: &mut Program, j: u32, value: i128) {
 // x <= 1 and x >= 2.
 fn apart(alloc: Global) -> Result<Program, Fail> {
     let mut p = start(alloc)?;
-    add_row(&mut p, alloc, b'a', None, Some(whole(1)))?;
-    add_row(&mut p, alloc, b'b', Some(whole(2)), None)?;
+    add_row(&mut p, alloc, b'a', at_most(1))?;
+    add_row(&mut p, alloc, b'b', at_least(2))?;
     add_column(&mut p, alloc, b'x', whole(0), None, false)?;
     set_entry(&mut p, 0, 0, 1);
     set_entry(&mut p, 1, 0, 1);
@@ -216,8 +225,8 @@ fn apart(alloc: Global) -> Result<Program, Fail> {
 // Minimise x^2 + 4y^2 - 32y + 64 where x + y <= 7, -x + 2y <= 4, x >= 0 and 0 <= y <= 4.
 fn first(alloc: Global) -> Result<Program, Fail> {
     let mut p = start(alloc)?;
-    add_row(&mut p, alloc, b'a', None, Some(whole(7)))?;
-    add_row(&mut p, alloc, b'b', None, Some(whole(4)))?;
+    add_row(&mut p, alloc, b'a', at_most(7))?;
+    add_row(&mut p, alloc, b'b', at_most(4))?;
     add_column(&mut p, alloc, b'x', whole(0), None, false)?;
     add_column(&mut p, alloc, b'y', whole(0), Some(whole(4)), false)?;
     for (i, j, value) in [(0, 0, 1i8), (0, 1, 1), (1, 0, -1), (1, 1, 2)] {
@@ -355,7 +364,7 @@ fn rays_and_vectors(rt: HostRuntime) -> Result<(), Fail> {
     for (d, rule, place) in [(1, 0, 0), (-1, 12, 1), (0, 14, 0)] {
         assert!(rt; answers(rt.alloc(), &p, &ray(rt.alloc(), d, false)?, rule, place)?);
     }
-    add_row(&mut p, rt.alloc(), b'a', None, Some(whole(3)))?;
+    add_row(&mut p, rt.alloc(), b'a', at_most(3))?;
     set_entry(&mut p, 0, 0, 2);
     assert!(rt; answers(rt.alloc(), &p, &ray(rt.alloc(), 1, false)?, 11, 1)?);
     set_entry(&mut p, 0, 0, 0);
