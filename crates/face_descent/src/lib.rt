@@ -1,0 +1,6 @@
+//! The shrink steps of the walk on a form, and their laws. Each law is the contract of a function that does nothing.
+#![tactic(auto)]
+
+mod systems;
+
+pub use systems::{small_system_says_what_a_step_keeps, stationary_is_having_multipliers};
