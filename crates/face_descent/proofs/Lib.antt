@@ -1,3 +1,4 @@
 pub mod Supports
 pub mod Small
 pub mod Stationary
+pub mod Directions

@@ -29,7 +29,7 @@ use Rattle.face_descent.proofs.Small.{sum_of, small_gives, at_places, at_equatio
 abbrev pub less : List ℚ → List ℚ
 less u = scale (neg_ℚ one_ℚ) u
 
-minus_one : (x : ℚ) → neg_ℚ x ≡ neg_ℚ one_ℚ *ℚ x
+pub minus_one : (x : ℚ) → neg_ℚ x ≡ neg_ℚ one_ℚ *ℚ x
 minus_one x = ring rationals (x ∷ []) (λ x. minus x ≐ minus (lit 1) ⊗ x) refl
 
 -- the right sides at the places are picked from -g
@@ -43,7 +43,7 @@ pub pick-scale : (S : List ℕ) (t : ℚ) (u : List ℚ) → pick S (scale t u) 
 pick-scale [] t u = refl
 pick-scale (i ∷ S) t u = ap (λ x. x ∷ pick S (scale t u)) (entry-scale t u i) ∙ ap (λ v. (t *ℚ entry u i) ∷ v) (pick-scale S t u)
 
-zeros_append : (k m : ℕ) → zeros k ++ zeros m ≡ zeros (k + m)
+pub zeros_append : (k m : ℕ) → zeros k ++ zeros m ≡ zeros (k + m)
 zeros_append zero m = ap zeros (omega arith)
 zeros_append (suc k) m =
     let e : suc (k + m) ≡ suc k + m = omega arith in

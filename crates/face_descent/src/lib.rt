@@ -1,6 +1,8 @@
 //! The shrink steps of the walk on a form, and their laws. Each law is the contract of a function that does nothing.
 #![tactic(auto)]
 
+mod steps;
 mod systems;
 
+pub use steps::full_step_is_stationary;
 pub use systems::{small_system_says_what_a_step_keeps, stationary_is_having_multipliers};
