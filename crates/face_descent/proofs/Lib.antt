@@ -2,3 +2,5 @@ pub mod Supports
 pub mod Small
 pub mod Stationary
 pub mod Directions
+pub mod Moves
+pub mod Rayless

@@ -56,7 +56,7 @@ padded_off (suc k) m [] c h = entry-zeros m c
 padded_off (suc k) m (a ∷ x) zero h = h
 padded_off (suc k) m (a ∷ x) (suc c) h = padded_off k m x c h
 
-add-zeros : (a : List ℚ) (n : ℕ) → length a ≡ n → add_each a (zeros n) ≡ a
+pub add-zeros : (a : List ℚ) (n : ℕ) → length a ≡ n → add_each a (zeros n) ≡ a
 add-zeros [] n e = refl
 add-zeros (x ∷ a) zero e = absurd (omega (arith, e))
 add-zeros (x ∷ a) (suc n) e =

@@ -4,5 +4,5 @@
 mod steps;
 mod systems;
 
-pub use steps::full_step_is_stationary;
+pub use steps::{full_step_is_stationary, moves_keep_solutions, refuted_step_falls};
 pub use systems::{small_system_says_what_a_step_keeps, stationary_is_having_multipliers};
