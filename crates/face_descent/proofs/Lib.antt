@@ -4,3 +4,4 @@ pub mod Stationary
 pub mod Directions
 pub mod Moves
 pub mod Rayless
+pub mod Ends

@@ -147,7 +147,7 @@ nearest_positive z d s a off h = subst (λ t. zero_ℚ <ℚ t) (sym h.there) (ra
 
 -- ---- sizes of supports
 
-size_zero : (j : ℕ) (x : ℚ) (z : List ℚ) → x ≡ zero_ℚ → length (support_from j (x ∷ z)) ≡ length (support_from (suc j) z)
+pub size_zero : (j : ℕ) (x : ℚ) (z : List ℚ) → x ≡ zero_ℚ → length (support_from j (x ∷ z)) ≡ length (support_from (suc j) z)
 size_zero j x z h = by (same_fields x zero_ℚ) refl
   where
     by : (b : Bool) → same_fields x zero_ℚ ≡ b → length (if b then support_from (suc j) z else j ∷ support_from (suc j) z) ≡ length (support_from (suc j) z)

@@ -1,10 +1,10 @@
 -- A shrink step from a point z of a form, over n columns: within z's support, along the direction that the small system gives.
-use Rattle.std.specs.Prelude.{◌≡◌, ◌⊎◌, ℕ, List, [], ◌∷◌, length, take}
+use Rattle.std.specs.Prelude.{Bool, false, if◌then◌else◌, ◌==◌, ◌+◌, ◌*◌, ◌≡◌, ◌⊎◌, ℕ, List, [], ◌∷◌, length, take}
 use Rattle.rational.specs.Rational.{ℚ, zero_ℚ, one_ℚ, neg_ℚ, ◌/ℚ◌}
 use Rattle.rational.specs.Order.{◌<ℚ◌, ◌≤ℚ◌}
 use Rattle.rational.specs.Sums.{entry}
 use Rattle.rational.specs.Vectors.{add_each, scale, zeros, put_at}
-use Rattle.exact_matrix.specs.EliminationAnswers.{Solution, Refutation}
+use Rattle.exact_matrix.specs.EliminationAnswers.{Answer, Solution, Refutation}
 use Rattle.equational.specs.Form.{Form}
 use Rattle.face_descent.specs.Small.{support, small_answer}
 
@@ -68,3 +68,17 @@ IsShrinkStep n f z next = IsSolvedStep n f z next ⊎ IsRefutedStep n f z next
 abbrev pub AreShrinkSteps : ℕ → Form → List ℚ → List (List ℚ) → Type 0
 AreShrinkSteps n f z [] = Unit {0}
 AreShrinkSteps n f z (next ∷ more) = IsShrinkStep n f z next × AreShrinkSteps n f next more
+
+-- the last of the points, and z where there is none
+abbrev pub last_point : List ℚ → List (List ℚ) → List ℚ
+last_point z [] = z
+last_point z (next ∷ more) = last_point next more
+
+-- whether an answer is a solution whose first k entries are 0
+abbrev pub is_still : ℕ → Answer → Bool
+is_still k (Solution x) = length (support (take k x)) == 0
+is_still k (Refutation w v) = false
+
+-- what each shrink step makes smaller: twice the places of the support, and one more unless z is stationary
+abbrev pub measure : Form → List ℚ → ℕ
+measure f z = 2 * length (support z) + (if is_still (length (support z)) (small_answer f z) then 0 else 1)
