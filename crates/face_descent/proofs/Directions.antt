@@ -141,7 +141,7 @@ module _ (n : ℕ) (f : Form) (z : List ℚ) (is : IsForm n f) (wide : length z 
       size = length-scale (neg_ℚ one_ℚ) rest ∙ length-l n f z is wide x way_solves;
       same = λ j there.
           let a = at_place (λ i. entry (sum_of n f is way rest) i ≡ entry (less g) i) (support z) j
-              (same_of_picked (support z) (sum_of n f is way rest) (less g) (sums n f z is wide x way_solves)) (place_of j there) in
+          (same_of_picked (support z) (sum_of n f is way rest) (less g) (sums n f z is wide x way_solves)) (place_of j there) in
           ap (λ v. entry v j) (combine-scale n (neg_ℚ one_ℚ) rest f.matrix is.columns) ∙ entry-scale (neg_ℚ one_ℚ) (combine n rest f.matrix) j
           ∙ turned_sum _ _ _ _ (gradient_there j) (sym (entry-add_each (rows_dot Q way) (combine n rest f.matrix) j (length-sum_parts n f is way rest)) ∙ a ∙ entry-scale (neg_ℚ one_ℚ) g j);
     }
@@ -249,6 +249,6 @@ module _ (n : ℕ) (f : Form) (z : List ℚ) (is : IsForm n f) (wide : length z 
       -- the costs fall along it as the value does
       pub turned_cost : dot f.cost d ≡ dot g d
       turned_cost = sym (
-            dot-add_left (rows_dot Q z) f.cost d (length-rows_dot Q z ∙ is.pairs_height ∙ sym is.cost)
-            ∙ ap (λ t. t +ℚ dot f.cost d) (dot_comm (rows_dot Q z) d ∙ form_comm n Q definite.symmetric d z ∙ ap (dot z) turned_flat ∙ dot-zeros_right z n)
-            ∙ rationals.add_comm zero_ℚ (dot f.cost d) ∙ rationals.add_zero (dot f.cost d))
+          dot-add_left (rows_dot Q z) f.cost d (length-rows_dot Q z ∙ is.pairs_height ∙ sym is.cost)
+          ∙ ap (λ t. t +ℚ dot f.cost d) (dot_comm (rows_dot Q z) d ∙ form_comm n Q definite.symmetric d z ∙ ap (dot z) turned_flat ∙ dot-zeros_right z n)
+          ∙ rationals.add_comm zero_ℚ (dot f.cost d) ∙ rationals.add_zero (dot f.cost d))

@@ -92,11 +92,11 @@ module _ (n : ℕ) (f : Form) (is : IsForm n f) (definite : IsSemidefinite n f.q
 
     solved_kept : (next : List ℚ) → IsSolvedStep n f z next → Kept z next
     solved_kept next h = subst (Kept z) (sym h.end) (record {
-          solution = solution_there n z d h.step wide long f is.cost sol (way_keeps n f z is wide definite h.unknowns h.solved) is.right s_nonneg (capped_within z d h.step h.capped);
-          value_down = value_within_one n f z is wide definite h.unknowns h.solved h.step s_nonneg (capped_at_most z d h.step h.capped);
-          within = λ j e. stays_zero n z d h.step wide long j e (off j e);
-          smaller = ⊎_elim full short h.capped;
-        })
+      solution = solution_there n z d h.step wide long f is.cost sol (way_keeps n f z is wide definite h.unknowns h.solved) is.right s_nonneg (capped_within z d h.step h.capped);
+      value_down = value_within_one n f z is wide definite h.unknowns h.solved h.step s_nonneg (capped_at_most z d h.step h.capped);
+      within = λ j e. stays_zero n z d h.step wide long j e (off j e);
+      smaller = ⊎_elim full short h.capped;
+    })
       where
         d : List ℚ
         d = on_support n z h.unknowns
@@ -123,11 +123,11 @@ module _ (n : ℕ) (f : Form) (is : IsForm n f) (definite : IsSemidefinite n f.q
 
     refuted_kept : (next : List ℚ) → IsRefutedStep n f z next → Kept z next
     refuted_kept next h = subst (Kept z) (sym h.end) (record {
-          solution = solution_there n z h.direction h.step wide long f is.cost sol (turned_keeps n f z is wide definite h.multipliers h.number h.refuted h.direction h.turned) is.right (lt_le _ _ s_positive) near.within;
-          value_down = lt_le _ _ (turned_falls n f z is wide definite h.multipliers h.number h.refuted h.direction h.turned h.step s_positive);
-          within = λ j e. stays_zero n z h.direction h.step wide long j e (off j e);
-          smaller = fewer (moved z h.direction h.step) one (loses_a_place n z h.direction h.step wide long off near);
-        })
+      solution = solution_there n z h.direction h.step wide long f is.cost sol (turned_keeps n f z is wide definite h.multipliers h.number h.refuted h.direction h.turned) is.right (lt_le _ _ s_positive) near.within;
+      value_down = lt_le _ _ (turned_falls n f z is wide definite h.multipliers h.number h.refuted h.direction h.turned h.step s_positive);
+      within = λ j e. stays_zero n z h.direction h.step wide long j e (off j e);
+      smaller = fewer (moved z h.direction h.step) one (loses_a_place n z h.direction h.step wide long off near);
+    })
       where
         near : IsNearest z h.direction h.step
         near = h.nearest
@@ -162,7 +162,7 @@ module _ (n : ℕ) (f : Form) (is : IsForm n f) (definite : IsSemidefinite n f.q
         turned_by : (w : List ℚ) (v : ℚ) → small_answer f z ≡ Refutation w v → (d : List ℚ) → IsTurned v (on_support n z w) d → (next : List ℚ) × IsShrinkStep n f z next
         turned_by w v e d t =
             let s = nearest_without_ray n f d is (length-turned n f z is wide definite w v e d t) (turned_keeps n f z is wide definite w v e d t) (turned_flat n f z is wide definite w v e d t)
-                (subst (λ x. x <ℚ zero_ℚ) (sym (turned_cost n f z is wide definite w v e d t)) (turned_slope n f z is wide definite w v e d t)) z rayless in
+            (subst (λ x. x <ℚ zero_ℚ) (sym (turned_cost n f z is wide definite w v e d t)) (turned_slope n f z is wide definite w v e d t)) z rayless in
             (moved z d s.0, inr (record { multipliers = w; number = v; refuted = e; direction = d; turned = t; step = s.0; nearest = s.1; end = refl }))
 
         by : (a : Answer) → small_answer f z ≡ a → IsStationary f z ⊎ ((next : List ℚ) × IsShrinkStep n f z next)

@@ -5,3 +5,4 @@ pub mod Directions
 pub mod Moves
 pub mod Rayless
 pub mod Ends
+mod WorkedShrink

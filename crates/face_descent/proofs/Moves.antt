@@ -98,9 +98,9 @@ nearest_before z d (suc k) = ⊎_elim none some (nearest_before z d k)
     some h = inr (⊎_elim
         (λ up. (h.0, h.1, (λ j b fall. ⊎_elim (λ e. absurd (lt_irrefl zero_ℚ (le-lt_trans (subst (λ (i : ℕ). zero_ℚ ≤ℚ entry d i) (sym e) up) fall))) (λ ne. h.2 j (before j b ne) fall) (cases_eq j k))))
         (λ l. ⊎_elim
-          (λ le. (h.0, h.1, (λ j b fall. ⊎_elim (λ e. subst (λ (i : ℕ). ratio z d h.0 ≤ℚ ratio z d i) (sym e) le) (λ ne. h.2 j (before j b ne) fall) (cases_eq j k))))
-          (λ lt. (k, l, (λ j b fall. ⊎_elim (λ e. subst (λ (i : ℕ). ratio z d k ≤ℚ ratio z d i) (sym e) (le_refl (ratio z d k))) (λ ne. le_trans (lt_le _ _ lt) (h.2 j (before j b ne) fall)) (cases_eq j k))))
-          (le_or_lt (ratio z d h.0) (ratio z d k)))
+        (λ le. (h.0, h.1, (λ j b fall. ⊎_elim (λ e. subst (λ (i : ℕ). ratio z d h.0 ≤ℚ ratio z d i) (sym e) le) (λ ne. h.2 j (before j b ne) fall) (cases_eq j k))))
+        (λ lt. (k, l, (λ j b fall. ⊎_elim (λ e. subst (λ (i : ℕ). ratio z d k ≤ℚ ratio z d i) (sym e) (le_refl (ratio z d k))) (λ ne. le_trans (lt_le _ _ lt) (h.2 j (before j b ne) fall)) (cases_eq j k))))
+        (le_or_lt (ratio z d h.0) (ratio z d k)))
         (le_or_lt zero_ℚ (entry d k)))
 
 -- an entry below 0 is one of the entries

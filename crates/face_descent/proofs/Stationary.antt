@@ -200,7 +200,7 @@ module _ (n : ℕ) (f : Form) (z : List ℚ) (is : IsForm n f) (wide : length z 
         size = length-scale (neg_ℚ one_ℚ) l ∙ length-l;
         same = λ j there.
             let a = at_place (λ i. entry (combine n l f.matrix) i ≡ entry (less g) i) S j
-                (same_of_picked S (combine n l f.matrix) (less g) (ap (pick S) (sym only_multipliers) ∙ sums)) (λ off. there (off_support z j off)) in
+            (same_of_picked S (combine n l f.matrix) (less g) (ap (pick S) (sym only_multipliers) ∙ sums)) (λ off. there (off_support z j off)) in
             ap (λ v. entry v j) (combine-scale n (neg_ℚ one_ℚ) l f.matrix is.columns) ∙ entry-scale (neg_ℚ one_ℚ) (combine n l f.matrix) j
             ∙ turned _ _ (a ∙ entry-scale (neg_ℚ one_ℚ) g j);
       }
@@ -218,7 +218,7 @@ module _ (n : ℕ) (f : Form) (z : List ℚ) (is : IsForm n f) (wide : length z 
             ∙ ap (λ v. pick S v ++ rows_dot f.matrix (zeros n)) (zeros-add (combine n (less y) f.matrix) n (length-combine n (less y) f.matrix is.columns) ∙ combine-scale n (neg_ℚ one_ℚ) y f.matrix is.columns)
             ∙ ap (λ v. pick S (less c) ++ v) (rows_dot-zeros f.matrix n)
             ∙ ap (λ v. v ++ zeros m) (pick-scale S (neg_ℚ one_ℚ) c
-              ∙ ap less (same_picked S c g (All-weaker (λ j. entry z j ≢ zero_ℚ) (λ j. entry c j ≡ entry g j) has.same S (support_nonzero z))) ∙ sym (pick-scale S (neg_ℚ one_ℚ) g))
+            ∙ ap less (same_picked S c g (All-weaker (λ j. entry z j ≢ zero_ℚ) (λ j. entry c j ≡ entry g j) has.same S (support_nonzero z))) ∙ sym (pick-scale S (neg_ℚ one_ℚ) g))
             ∙ sym right_is;
       }
 
