@@ -144,6 +144,30 @@ module _ (n : ℕ) (f : Form) (is : IsForm n f) (definite : IsSemidefinite n f.q
         one : bit f z ≡ 1
         one = ap (λ a. flag (is_still (length (support z)) a)) h.refuted
 
+    pub full_is_stationary : (next : List ℚ) (h : IsSolvedStep n f z next) → h.step ≡ one_ℚ → IsStationary f next
+    full_is_stationary next h e =
+        subst (IsStationary f) (sym (h.end ∙ ap (moved z (on_support n z h.unknowns)) e)) (full_stationary n f z is wide definite h.unknowns h.solved)
+
+    pub short_loses : (next : List ℚ) (h : IsSolvedStep n f z next) → ¬ (h.step ≡ one_ℚ) → length (support next) < length (support z)
+    short_loses next h ne =
+        subst (λ t. length (support t) < length (support z)) (sym h.end)
+        (⊎_elim (λ k. absurd (ne (k.0)))
+        (λ k. loses_a_place n z (on_support n z h.unknowns) h.step wide (length-way n f z is wide definite h.unknowns h.solved) (direction_off n z h.unknowns) (k.0)) h.capped)
+
+    refuted_off : (next : List ℚ) (h : IsRefutedStep n f z next) (j : ℕ) → entry z j ≡ zero_ℚ → entry h.direction j ≡ zero_ℚ
+    refuted_off next h = turned_off n f z is wide definite h.multipliers h.number h.refuted h.direction h.turned
+
+    pub refuted_loses : (next : List ℚ) → IsRefutedStep n f z next → length (support next) < length (support z)
+    refuted_loses next h =
+        subst (λ t. length (support t) < length (support z)) (sym h.end)
+        (loses_a_place n z h.direction h.step wide (length-turned n f z is wide definite h.multipliers h.number h.refuted h.direction h.turned) (refuted_off next h) h.nearest)
+
+    pub refuted_falls : (next : List ℚ) → IsRefutedStep n f z next → value next <ℚ value z
+    refuted_falls next h =
+        subst (λ t. value t <ℚ value z) (sym h.end)
+        (turned_falls n f z is wide definite h.multipliers h.number h.refuted h.direction h.turned h.step
+        (nearest_positive z h.direction h.step sol.not_negative (refuted_off next h) h.nearest))
+
     pub step_kept : (next : List ℚ) → IsShrinkStep n f z next → Kept z next
     step_kept next h = ⊎_elim (solved_kept next) (refuted_kept next) h
 
