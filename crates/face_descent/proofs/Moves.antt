@@ -20,7 +20,7 @@ use Rattle.rational.proofs.Vectors.{length-scale, rows_dot-add, rows_dot-scale}
 use Rattle.equational.specs.Form.{Form}
 use Rattle.equational.specs.Solutions.{IsNotNegative, IsSolution}
 use Rattle.face_descent.specs.Small.{support_from, support}
-use Rattle.face_descent.specs.Step.{ratio, moved, IsWithin, IsNearest, IsCapped}
+use Rattle.face_descent.specs.Step.{distance, moved, IsWithin, IsNearest, IsCapped}
 use Rattle.face_descent.proofs.Directions.{length-moved, entry-moved, scale-zeros}
 
 -- ---- a place is reached
@@ -28,25 +28,25 @@ use Rattle.face_descent.proofs.Directions.{length-moved, entry-moved, scale-zero
 size_below : (a : ℚ) → a <ℚ zero_ℚ → zero_ℚ <ℚ neg_ℚ a
 size_below a h = prove ordered_rationals (a ∷ []) (λ a. lit 0 ≺ minus a ⇐ given (a ≺ lit 0)) refl h
 
--- the ratio times the size of the fall is the entry
-ratio_times : (z d : List ℚ) (j : ℕ) → entry d j <ℚ zero_ℚ → ratio z d j *ℚ neg_ℚ (entry d j) ≡ entry z j
+-- the distance times the size of the fall is the entry
+ratio_times : (z d : List ℚ) (j : ℕ) → entry d j <ℚ zero_ℚ → distance z d j *ℚ neg_ℚ (entry d j) ≡ entry z j
 ratio_times z d j h = div-mul_cancel (entry z j) (neg_ℚ (entry d j)) (ne_of_lt (size_below (entry d j) h))
 
-pub ratio_nonneg : (z d : List ℚ) (j : ℕ) → entry d j <ℚ zero_ℚ → zero_ℚ ≤ℚ entry z j → zero_ℚ ≤ℚ ratio z d j
+pub ratio_nonneg : (z d : List ℚ) (j : ℕ) → entry d j <ℚ zero_ℚ → zero_ℚ ≤ℚ entry z j → zero_ℚ ≤ℚ distance z d j
 ratio_nonneg z d j h k = le-div (size_below (entry d j) h) (subst (λ t. t ≤ℚ entry z j) (sym (laws.zero_mul rationals (neg_ℚ (entry d j)))) k)
 
--- a ratio of 0 is only at an entry of 0
-pub ratio_positive : (z d : List ℚ) (j : ℕ) → entry d j <ℚ zero_ℚ → zero_ℚ ≤ℚ entry z j → entry z j ≢ zero_ℚ → zero_ℚ <ℚ ratio z d j
+-- a distance of 0 is only at an entry of 0
+pub ratio_positive : (z d : List ℚ) (j : ℕ) → entry d j <ℚ zero_ℚ → zero_ℚ ≤ℚ entry z j → entry z j ≢ zero_ℚ → zero_ℚ <ℚ distance z d j
 ratio_positive z d j h k ne = ⊎_elim
-    (λ le. absurd (ne (sym (ratio_times z d j h) ∙ ap (λ t. t *ℚ neg_ℚ (entry d j)) (le_antisymm (ratio z d j) zero_ℚ le (ratio_nonneg z d j h k)) ∙ laws.zero_mul rationals (neg_ℚ (entry d j)))))
-    (λ lt. lt) (le_or_lt (ratio z d j) zero_ℚ)
+    (λ le. absurd (ne (sym (ratio_times z d j h) ∙ ap (λ t. t *ℚ neg_ℚ (entry d j)) (le_antisymm (distance z d j) zero_ℚ le (ratio_nonneg z d j h k)) ∙ laws.zero_mul rationals (neg_ℚ (entry d j)))))
+    (λ lt. lt) (le_or_lt (distance z d j) zero_ℚ)
 
 hits : (x y s r : ℚ) → s ≡ r → r *ℚ neg_ℚ y ≡ x → x +ℚ s *ℚ y ≡ zero_ℚ
 hits x y s r e f = prove ordered_rationals (x ∷ y ∷ s ∷ r ∷ []) (λ x y s r. x ⊕ s ⊗ y ≐ lit 0 ⇐ scaled y s r ⊞ scaled (minus (lit 1)) (r ⊗ minus y) x) refl e f
 
 module _ (n : ℕ) (z d : List ℚ) (s : ℚ) (wide : length z ≡ n) (long : length d ≡ n) where
   pub zero_there : (h : IsNearest z d s) → entry (moved z d s) h.place ≡ zero_ℚ
-  zero_there h = entry-moved n z d s h.place wide long ∙ hits (entry z h.place) (entry d h.place) s (ratio z d h.place) h.there (ratio_times z d h.place h.falls)
+  zero_there h = entry-moved n z d s h.place wide long ∙ hits (entry z h.place) (entry d h.place) s (distance z d h.place) h.there (ratio_times z d h.place h.falls)
 
   pub stays_zero : (j : ℕ) → entry z j ≡ zero_ℚ → entry d j ≡ zero_ℚ → entry (moved z d s) j ≡ zero_ℚ
   stays_zero j e f = entry-moved n z d s j wide long ∙ ap (λ t. t +ℚ s *ℚ entry d j) e ∙ ap (λ t. zero_ℚ +ℚ s *ℚ t) f ∙ ring rationals (s ∷ []) (λ s. lit 0 ⊕ s ⊗ lit 0 ≐ lit 0) refl
@@ -59,7 +59,7 @@ module _ (n : ℕ) (z d : List ℚ) (s : ℚ) (wide : length z ≡ n) (long : le
       rises h = prove ordered_rationals (entry z j ∷ entry d j ∷ s ∷ []) (λ x y s. lit 0 ≼ x ⊕ s ⊗ y ⇐ given (lit 0 ≼ x) ⊞ (given (lit 0 ≼ s) ⊠ given (lit 0 ≼ y))) refl k p h
 
       falls : entry d j <ℚ zero_ℚ → zero_ℚ ≤ℚ (entry z j +ℚ s *ℚ entry d j)
-      falls h = prove ordered_rationals (entry z j ∷ entry d j ∷ s ∷ ratio z d j ∷ [])
+      falls h = prove ordered_rationals (entry z j ∷ entry d j ∷ s ∷ distance z d j ∷ [])
           (λ x y s r. lit 0 ≼ x ⊕ s ⊗ y ⇐ (given (s ≼ r) ⊠ given (lit 0 ≼ minus y)) ⊞ given (r ⊗ minus y ≐ x)) refl (within j h) (lt_le _ _ (size_below (entry d j) h)) (ratio_times z d j h)
 
   pub solution_there : (f : Form) → length f.cost ≡ n → IsSolution f z → rows_dot f.matrix d ≡ zeros (length f.matrix) → length f.right ≡ length f.matrix → zero_ℚ ≤ℚ s → IsWithin z d s → IsSolution f (moved z d s)
@@ -76,7 +76,7 @@ module _ (n : ℕ) (z d : List ℚ) (s : ℚ) (wide : length z ≡ n) (long : le
 
 -- the nearest zero of the places before k
 abbrev Nearest : List ℚ → List ℚ → ℕ → Type 0
-Nearest z d k = (p : ℕ) × (entry d p <ℚ zero_ℚ) × ((j : ℕ) → j < k → entry d j <ℚ zero_ℚ → ratio z d p ≤ℚ ratio z d j)
+Nearest z d k = (p : ℕ) × (entry d p <ℚ zero_ℚ) × ((j : ℕ) → j < k → entry d j <ℚ zero_ℚ → distance z d p ≤ℚ distance z d j)
 
 abbrev NoFall : List ℚ → ℕ → Type 0
 NoFall d k = (j : ℕ) → j < k → ¬ (entry d j <ℚ zero_ℚ)
@@ -91,16 +91,16 @@ nearest_before z d (suc k) = ⊎_elim none some (nearest_before z d k)
     none : NoFall d k → NoFall d (suc k) ⊎ Nearest z d (suc k)
     none h = ⊎_elim
         (λ up. inl (λ j b. ⊎_elim (λ e l. lt_irrefl zero_ℚ (le-lt_trans (subst (λ (i : ℕ). zero_ℚ ≤ℚ entry d i) (sym e) up) l)) (λ ne. h j (before j b ne)) (cases_eq j k)))
-        (λ l. inr (k, l, (λ j b fall. ⊎_elim (λ e. subst (λ (i : ℕ). ratio z d k ≤ℚ ratio z d i) (sym e) (le_refl (ratio z d k))) (λ ne. absurd (h j (before j b ne) fall)) (cases_eq j k))))
+        (λ l. inr (k, l, (λ j b fall. ⊎_elim (λ e. subst (λ (i : ℕ). distance z d k ≤ℚ distance z d i) (sym e) (le_refl (distance z d k))) (λ ne. absurd (h j (before j b ne) fall)) (cases_eq j k))))
         (le_or_lt zero_ℚ (entry d k))
 
     some : Nearest z d k → NoFall d (suc k) ⊎ Nearest z d (suc k)
     some h = inr (⊎_elim
         (λ up. (h.0, h.1, (λ j b fall. ⊎_elim (λ e. absurd (lt_irrefl zero_ℚ (le-lt_trans (subst (λ (i : ℕ). zero_ℚ ≤ℚ entry d i) (sym e) up) fall))) (λ ne. h.2 j (before j b ne) fall) (cases_eq j k))))
         (λ l. ⊎_elim
-        (λ le. (h.0, h.1, (λ j b fall. ⊎_elim (λ e. subst (λ (i : ℕ). ratio z d h.0 ≤ℚ ratio z d i) (sym e) le) (λ ne. h.2 j (before j b ne) fall) (cases_eq j k))))
-        (λ lt. (k, l, (λ j b fall. ⊎_elim (λ e. subst (λ (i : ℕ). ratio z d k ≤ℚ ratio z d i) (sym e) (le_refl (ratio z d k))) (λ ne. le_trans (lt_le _ _ lt) (h.2 j (before j b ne) fall)) (cases_eq j k))))
-        (le_or_lt (ratio z d h.0) (ratio z d k)))
+        (λ le. (h.0, h.1, (λ j b fall. ⊎_elim (λ e. subst (λ (i : ℕ). distance z d h.0 ≤ℚ distance z d i) (sym e) le) (λ ne. h.2 j (before j b ne) fall) (cases_eq j k))))
+        (λ lt. (k, l, (λ j b fall. ⊎_elim (λ e. subst (λ (i : ℕ). distance z d k ≤ℚ distance z d i) (sym e) (le_refl (distance z d k))) (λ ne. le_trans (lt_le _ _ lt) (h.2 j (before j b ne) fall)) (cases_eq j k))))
+        (le_or_lt (distance z d h.0) (distance z d k)))
         (le_or_lt zero_ℚ (entry d k)))
 
 -- an entry below 0 is one of the entries
@@ -110,7 +110,7 @@ inside d j h = ⊎_elim (λ b. b) (λ b. absurd (lt_irrefl zero_ℚ (subst (λ t
 -- a nearest zero, or no entry of d is below 0
 pub nearest_or_none : (z d : List ℚ) → ((s : ℚ) × IsNearest z d s) ⊎ ((j : ℕ) → ¬ (entry d j <ℚ zero_ℚ))
 nearest_or_none z d = ⊎_elim (λ h. inr (λ j l. h j (inside d j l) l))
-    (λ h. inl (ratio z d h.0, record { place = h.0; falls = h.1; there = refl; within = λ j l. h.2 j (inside d j l) l }))
+    (λ h. inl (distance z d h.0, record { place = h.0; falls = h.1; there = refl; within = λ j l. h.2 j (inside d j l) l }))
     (nearest_before z d (length d))
 
 pub nearest_there : (z d : List ℚ) (j : ℕ) → entry d j <ℚ zero_ℚ → (s : ℚ) × IsNearest z d s

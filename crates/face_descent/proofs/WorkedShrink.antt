@@ -2,7 +2,7 @@
 use Rattle.std.specs.Prelude.{◌≡◌, ℕ, zero, suc, pos, neg_ℤ, List, [], ◌∷◌}
 use Rattle.std.proofs.Common.{refl, sym, ◌∙◌, ap, subst, inl, inr}
 use Rattle.rational.specs.Divisors.{gcd_of}
-use Rattle.rational.specs.Rational.{ℚ, whole, ratio as rational_ratio, neg_ℚ, reciprocal, same_ℚ, zero_ℚ, one_ℚ, ◌+ℚ◌, ◌*ℚ◌}
+use Rattle.rational.specs.Rational.{ℚ, whole, ratio, neg_ℚ, reciprocal, same_ℚ, zero_ℚ, one_ℚ, ◌+ℚ◌, ◌*ℚ◌}
 use Rattle.rational.specs.Order.{◌<ℚ◌}
 use Rattle.rational.proofs.Order.{lt_irrefl, lt_le, whole_positive}
 use Rattle.rational.proofs.OrderLaws.{lt-le_trans, le_of_eq}
@@ -12,7 +12,7 @@ use Rattle.exact_matrix.specs.Elimination.{pivot_row, with_pivot, freed, step, e
 use Rattle.exact_matrix.specs.EliminationAnswers.{row_of_pivot, Answer, Solution, Refutation}
 use Rattle.equational.specs.Form.{Form}
 use Rattle.face_descent.specs.Small.{small_answer, IsStationary}
-use Rattle.face_descent.specs.Step.{ratio, on_support, moved, IsWithin, AreShrinkSteps}
+use Rattle.face_descent.specs.Step.{distance, on_support, moved, IsWithin, AreShrinkSteps}
 
 abbrev n : ℕ → ℚ
 n k = whole (pos k)
@@ -56,19 +56,19 @@ one_is_not_zero e = lt_irrefl zero_ℚ (subst (λ t. zero_ℚ <ℚ t) (heads e) 
     heads e = cc
 
 start_answer : small_answer form start ≡ Solution (n 1 ∷ [])
-unfolding ◌+ℚ◌ ◌*ℚ◌ neg_ℚ rational_ratio gcd_of whole reciprocal pivot_row with_pivot freed step eliminated_from row_of_pivot
+unfolding ◌+ℚ◌ ◌*ℚ◌ neg_ℚ ratio gcd_of whole reciprocal pivot_row with_pivot freed step eliminated_from row_of_pivot
 start_answer = one _ _ (refl, refl)
 
 end_answer : small_answer form end ≡ Solution (n 0 ∷ [])
-unfolding ◌+ℚ◌ ◌*ℚ◌ neg_ℚ rational_ratio gcd_of whole reciprocal pivot_row with_pivot freed step eliminated_from row_of_pivot
+unfolding ◌+ℚ◌ ◌*ℚ◌ neg_ℚ ratio gcd_of whole reciprocal pivot_row with_pivot freed step eliminated_from row_of_pivot
 end_answer = one _ _ (refl, refl)
 
 direction : on_support 2 start (n 1 ∷ []) ≡ n 1 ∷ n 0 ∷ []
-unfolding ◌+ℚ◌ ◌*ℚ◌ neg_ℚ rational_ratio gcd_of whole
+unfolding ◌+ℚ◌ ◌*ℚ◌ neg_ℚ ratio gcd_of whole
 direction = two _ _ _ _ (same_ℚ _ _ refl refl) (same_ℚ _ _ refl refl)
 
 end_is : moved start (n 1 ∷ n 0 ∷ []) one_ℚ ≡ end
-unfolding ◌+ℚ◌ ◌*ℚ◌ neg_ℚ rational_ratio gcd_of whole
+unfolding ◌+ℚ◌ ◌*ℚ◌ neg_ℚ ratio gcd_of whole
 end_is = two _ _ _ _ (same_ℚ _ _ refl refl) (same_ℚ _ _ refl refl)
 
 -- no entry of the direction falls
@@ -78,7 +78,7 @@ no_zero (suc zero) h = absurd (lt_irrefl zero_ℚ h)
 no_zero (suc (suc j)) h = absurd (lt_irrefl zero_ℚ h)
 
 shrinks : AreShrinkSteps 2 form start (end ∷ [])
-unfolding rational_ratio gcd_of whole
+unfolding ratio gcd_of whole
 shrinks = (
   inl (record {
     unknowns = n 1 ∷ [];
@@ -92,7 +92,7 @@ shrinks = (
 )
 
 stationary : IsStationary form end
-unfolding rational_ratio gcd_of whole
+unfolding ratio gcd_of whole
 stationary = record { unknowns = n 0 ∷ []; solved = end_answer; still = refl }
 
 -- ---- a refuted step: the cost -x where x + y = 2, from (1, 1), goes to (2, 0)
@@ -144,26 +144,26 @@ abbrev refuting : List ℚ
 refuting = minus_one ∷ n 1 ∷ n 0 ∷ []
 
 middle_answer : small_answer slope middle ≡ Refutation refuting minus_one
-unfolding ◌+ℚ◌ ◌*ℚ◌ neg_ℚ rational_ratio gcd_of whole reciprocal pivot_row with_pivot freed step eliminated_from row_of_pivot
+unfolding ◌+ℚ◌ ◌*ℚ◌ neg_ℚ ratio gcd_of whole reciprocal pivot_row with_pivot freed step eliminated_from row_of_pivot
 middle_answer = three _ _ _ _ _ ((refl, refl), (refl, refl), (refl, refl), (refl, refl))
 
 abbrev downhill : List ℚ
 downhill = n 1 ∷ minus_one ∷ []
 
 turned_is : downhill ≡ scale (neg_ℚ one_ℚ) (on_support 2 middle refuting)
-unfolding ◌+ℚ◌ ◌*ℚ◌ neg_ℚ rational_ratio gcd_of whole
+unfolding ◌+ℚ◌ ◌*ℚ◌ neg_ℚ ratio gcd_of whole
 turned_is = two _ _ _ _ (same_ℚ _ _ refl refl) (same_ℚ _ _ refl refl)
 
 minus_below : minus_one <ℚ zero_ℚ
-unfolding rational_ratio gcd_of whole
+unfolding ratio gcd_of whole
 minus_below = negative_below minus_one refl
 
-ratio_is : one_ℚ ≡ ratio middle downhill 1
-unfolding ◌+ℚ◌ ◌*ℚ◌ neg_ℚ rational_ratio gcd_of whole reciprocal
+ratio_is : one_ℚ ≡ distance middle downhill 1
+unfolding ◌+ℚ◌ ◌*ℚ◌ neg_ℚ ratio gcd_of whole reciprocal
 ratio_is = same_ℚ _ _ refl refl
 
 moved_is : end ≡ moved middle downhill one_ℚ
-unfolding ◌+ℚ◌ ◌*ℚ◌ neg_ℚ rational_ratio gcd_of whole
+unfolding ◌+ℚ◌ ◌*ℚ◌ neg_ℚ ratio gcd_of whole
 moved_is = two _ _ _ _ (same_ℚ _ _ refl refl) (same_ℚ _ _ refl refl)
 
 within_one : IsWithin middle downhill one_ℚ
@@ -174,14 +174,14 @@ within_one (suc (suc j)) h = absurd (lt_irrefl zero_ℚ h)
 falls : AreShrinkSteps 2 slope middle (end ∷ [])
 falls = (
   inr (record {
-      multipliers = refuting;
-      number = minus_one;
-      refuted = middle_answer;
-      direction = downhill;
-      turned = record { as_it_is = λ h. absurd (lt_irrefl zero_ℚ (lt-le_trans h (lt_le _ _ minus_below))); changed = λ h. turned_is };
-      step = one_ℚ;
-      nearest = record { place = 1; falls = minus_below; there = ratio_is; within = within_one };
-      end = moved_is;
-    }),
+    multipliers = refuting;
+    number = minus_one;
+    refuted = middle_answer;
+    direction = downhill;
+    turned = record { as_it_is = λ h. absurd (lt_irrefl zero_ℚ (lt-le_trans h (lt_le _ _ minus_below))); changed = λ h. turned_is };
+    step = one_ℚ;
+    nearest = record { place = 1; falls = minus_below; there = ratio_is; within = within_one };
+    end = moved_is;
+  }),
   tt,
 )

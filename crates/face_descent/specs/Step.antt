@@ -13,18 +13,18 @@ abbrev pub on_support : ℕ → List ℚ → List ℚ → List ℚ
 on_support n z x = put_at n (support z) (take (length (support z)) x)
 
 -- how far z can go along d until its entry at j is 0, where d falls there
-abbrev pub ratio : List ℚ → List ℚ → ℕ → ℚ
-ratio z d j = entry z j /ℚ neg_ℚ (entry d j)
+abbrev pub distance : List ℚ → List ℚ → ℕ → ℚ
+distance z d j = entry z j /ℚ neg_ℚ (entry d j)
 
 -- s goes past no zero
 abbrev pub IsWithin : List ℚ → List ℚ → ℚ → Type 0
-IsWithin z d s = (j : ℕ) → entry d j <ℚ zero_ℚ → s ≤ℚ ratio z d j
+IsWithin z d s = (j : ℕ) → entry d j <ℚ zero_ℚ → s ≤ℚ distance z d j
 
 -- s goes to the nearest zero, which place has
 pub record IsNearest (z d : List ℚ) (s : ℚ) : Type 0 where
   pub place : ℕ
   pub falls : entry d place <ℚ zero_ℚ
-  pub there : s ≡ ratio z d place
+  pub there : s ≡ distance z d place
   pub within : IsWithin z d s
 
 -- s is the smaller of 1 and the nearest zero
