@@ -1,0 +1,38 @@
+//! The laws of lists of shrink steps.
+
+ghost use Rattle.std.specs.Prelude.{◌≡◌, ◌<◌, ◌≤◌, ◌+◌, ◌⊎◌, ℕ, List, length};
+ghost use Rattle.rational.specs.Rational.{ℚ, one_ℚ, zero_ℚ};
+ghost use Rattle.rational.specs.Order.{◌<ℚ◌, ◌≤ℚ◌};
+ghost use Rattle.rational.specs.Sums.{entry};
+ghost use Rattle.rational.specs.Vectors.{IsSemidefinite, quadratic};
+ghost use Rattle.equational.specs.Form.{Form};
+ghost use Rattle.equational.specs.Solutions.{IsForm, IsFormRay, IsSolution};
+ghost use Rattle.face_descent.specs.Small.{IsStationary, support};
+ghost use Rattle.face_descent.specs.Step.{AreShrinkSteps, IsRefutedStep, IsShrinkStep, IsSolvedStep, last_point, measure};
+
+/// A shrink step goes from a solution to a solution, with a value and a support not above those before it.
+/// A full step of a solution is stationary at once; one cut short loses a place of the support, and so does
+/// a refuted one, whose value falls. So the measure falls at each. A stationary point has no step; each other has one, where the form has no ray.
+pub fn shrink_steps_fall()
+    ensures solution { (n : ℕ) (f : Form) (z next : List ℚ) → IsForm n f → IsSemidefinite n f.quadratic → IsSolution f z → IsShrinkStep n f z next → IsSolution f next }
+    ensures value { (n : ℕ) (f : Form) (z next : List ℚ) → IsForm n f → IsSemidefinite n f.quadratic → IsSolution f z → IsShrinkStep n f z next → quadratic f.quadratic f.cost f.constant next ≤ℚ quadratic f.quadratic f.cost f.constant z }
+    ensures support { (n : ℕ) (f : Form) (z next : List ℚ) → IsForm n f → IsSemidefinite n f.quadratic → IsSolution f z → IsShrinkStep n f z next → (j : ℕ) → entry z j ≡ zero_ℚ → entry next j ≡ zero_ℚ }
+    ensures full { (n : ℕ) (f : Form) (z next : List ℚ) → IsForm n f → IsSemidefinite n f.quadratic → IsSolution f z → (h : IsSolvedStep n f z next) → h.step ≡ one_ℚ → IsStationary f next }
+    ensures short { (n : ℕ) (f : Form) (z next : List ℚ) → IsForm n f → IsSemidefinite n f.quadratic → IsSolution f z → (h : IsSolvedStep n f z next) → ¬ (h.step ≡ one_ℚ) → length (support next) < length (support z) }
+    ensures refuted { (n : ℕ) (f : Form) (z next : List ℚ) → IsForm n f → IsSemidefinite n f.quadratic → IsSolution f z → IsRefutedStep n f z next → length (support next) < length (support z) }
+    ensures falls { (n : ℕ) (f : Form) (z next : List ℚ) → IsForm n f → IsSemidefinite n f.quadratic → IsSolution f z → IsRefutedStep n f z next → quadratic f.quadratic f.cost f.constant next <ℚ quadratic f.quadratic f.cost f.constant z }
+    ensures measure { (n : ℕ) (f : Form) (z next : List ℚ) → IsForm n f → IsSemidefinite n f.quadratic → IsSolution f z → IsShrinkStep n f z next → measure f next < measure f z }
+    ensures stationary { (n : ℕ) (f : Form) (z next : List ℚ) → IsForm n f → IsSemidefinite n f.quadratic → IsSolution f z → IsStationary f z → IsShrinkStep n f z next → ⊥ }
+    ensures some { (n : ℕ) (f : Form) (z : List ℚ) → IsForm n f → IsSemidefinite n f.quadratic → IsSolution f z → ((r : List ℚ) → ¬ (IsFormRay f r)) → IsStationary f z ⊎ ((next : List ℚ) × IsShrinkStep n f z next) }
+{}
+
+/// A list of shrink steps from a solution ends at a solution, with a value and a support not above those at
+/// its start, and has no more steps than the measure there. Where the form has no ray, some list ends at a
+/// stationary point.
+pub fn shrink_steps_end()
+    ensures solution { (n : ℕ) (f : Form) (z : List ℚ) (points : List (List ℚ)) → IsForm n f → IsSemidefinite n f.quadratic → IsSolution f z → AreShrinkSteps n f z points → IsSolution f (last_point z points) }
+    ensures value { (n : ℕ) (f : Form) (z : List ℚ) (points : List (List ℚ)) → IsForm n f → IsSemidefinite n f.quadratic → IsSolution f z → AreShrinkSteps n f z points → quadratic f.quadratic f.cost f.constant (last_point z points) ≤ℚ quadratic f.quadratic f.cost f.constant z }
+    ensures support { (n : ℕ) (f : Form) (z : List ℚ) (points : List (List ℚ)) → IsForm n f → IsSemidefinite n f.quadratic → IsSolution f z → AreShrinkSteps n f z points → (j : ℕ) → entry z j ≡ zero_ℚ → entry (last_point z points) j ≡ zero_ℚ }
+    ensures bounded { (n : ℕ) (f : Form) (z : List ℚ) (points : List (List ℚ)) → IsForm n f → IsSemidefinite n f.quadratic → IsSolution f z → AreShrinkSteps n f z points → measure f (last_point z points) + length points ≤ measure f z }
+    ensures ends { (n : ℕ) (f : Form) (z : List ℚ) → IsForm n f → IsSemidefinite n f.quadratic → IsSolution f z → ((r : List ℚ) → ¬ (IsFormRay f r)) → (points : List (List ℚ)) × AreShrinkSteps n f z points × IsStationary f (last_point z points) }
+{}
