@@ -1,0 +1,54 @@
+//! The price problem at a point of a form.
+
+ghost use Rattle.std.specs.Prelude.{◌≡◌, ◌≢◌, ℕ, List, length, map};
+ghost use Rattle.rational.specs.Rational.{ℚ, zero_ℚ, one_ℚ, neg_ℚ};
+ghost use Rattle.rational.specs.Order.{◌<ℚ◌};
+ghost use Rattle.rational.specs.Sums.{entry};
+ghost use Rattle.rational.specs.Vectors.{IsSymmetric, IsSemidefinite};
+ghost use Rattle.linear_basis.specs.Problem as linear;
+ghost use Rattle.equational.specs.Form.{Form};
+ghost use Rattle.equational.specs.Solutions.{IsForm, IsSolution, IsFormRay};
+ghost use Rattle.equational.specs.Optimal.{IsOptimality};
+ghost use Rattle.quad_solve.specs.Problems.{price_problem, direction, last_number, price_multipliers};
+ghost use Rattle.quad_solve.specs.Steps.{LeadsDown, IsPriceStep, IsStationaryBy, HaveSameSupport, curvature, height, moved};
+
+/// A solution of the price problem at a point leads down from it.
+pub fn price_problem_leads_down()
+    ensures problem { (n : ℕ) (f : Form) (z : List ℚ) → IsForm n f → linear.IsProblem (price_problem f z) }
+    ensures direction { (n : ℕ) (f : Form) (z x : List ℚ) → IsForm n f → IsSolution f z → linear.IsSolution (price_problem f z) x →
+        LeadsDown f z (direction f z x) }
+{}
+
+/// A price step goes some way, to a solution of the form with a lesser value. Where the form has no ray, a direction that
+/// leads down without curvature lessens some entry.
+pub fn price_step_falls()
+    ensures goes { (n : ℕ) (f : Form) (z d : List ℚ) (s : ℚ) → IsForm n f → IsSemidefinite n f.quadratic → LeadsDown f z d →
+        IsPriceStep f z d s → zero_ℚ <ℚ s }
+    ensures solution { (n : ℕ) (f : Form) (z d : List ℚ) (s : ℚ) → IsForm n f → IsSemidefinite n f.quadratic → IsSolution f z →
+        LeadsDown f z d → IsPriceStep f z d s → IsSolution f (moved z s d) }
+    ensures falls { (n : ℕ) (f : Form) (z d : List ℚ) (s : ℚ) → IsForm n f → IsSemidefinite n f.quadratic → IsSolution f z →
+        LeadsDown f z d → IsPriceStep f z d s → height f (moved z s d) <ℚ height f z }
+    ensures lessens { (n : ℕ) (f : Form) (z d : List ℚ) → IsForm n f → IsSemidefinite n f.quadratic → IsSolution f z →
+        LeadsDown f z d → curvature f d ≡ zero_ℚ → ¬ (IsFormRay f d) → (j : ℕ) × (entry d j <ℚ zero_ℚ) }
+{}
+
+/// A Farkas vector of the price problem has a last entry below 0, and gives the multipliers that show the point optimal.
+/// No price problem has both a solution and a Farkas vector.
+pub fn refuted_price_is_optimal()
+    ensures below { (n : ℕ) (f : Form) (z w : List ℚ) → IsForm n f → linear.IsFarkas (price_problem f z) w →
+        last_number f w <ℚ zero_ℚ }
+    ensures optimal { (n : ℕ) (f : Form) (z w : List ℚ) → IsForm n f → linear.IsFarkas (price_problem f z) w →
+        IsOptimality n f z (price_multipliers f w) }
+    ensures stationary { (n : ℕ) (f : Form) (z w : List ℚ) → IsForm n f → linear.IsFarkas (price_problem f z) w →
+        IsStationaryBy f z (map neg_ℚ (price_multipliers f w)) }
+    ensures not_both { (n : ℕ) (f : Form) (z x w : List ℚ) → IsForm n f → linear.IsSolution (price_problem f z) x →
+        linear.IsFarkas (price_problem f z) w → ⊥ }
+{}
+
+/// Two stationary solutions with the same support have the same value; so where the values differ, the supports do.
+pub fn supports_of_stationary_points_differ()
+    ensures value { (n : ℕ) (f : Form) (z w μ ν : List ℚ) → IsForm n f → IsSymmetric n f.quadratic → IsSolution f z → IsSolution f w →
+        HaveSameSupport z w → IsStationaryBy f z μ → IsStationaryBy f w ν → height f z ≡ height f w }
+    ensures differ { (n : ℕ) (f : Form) (z w μ ν : List ℚ) → IsForm n f → IsSymmetric n f.quadratic → IsSolution f z → IsSolution f w →
+        IsStationaryBy f z μ → IsStationaryBy f w ν → height f w <ℚ height f z → ¬ (HaveSameSupport z w) }
+{}
