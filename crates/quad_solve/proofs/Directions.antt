@@ -43,7 +43,7 @@ rays_form_a_problem n f h = record {
     wide r = length r ≡ length f.cost
 
 -- the three parts of its product
-products : (f : Form) (d : List ℚ) → rows_dot (ray_problem f).rows d ≡ rows_dot f.matrix d ++ rows_dot f.quadratic d ++ dot (map neg_ℚ f.cost) d ∷ []
+products : (f : Form) (d : List ℚ) → rows_dot (ray_problem f).rows d ≡ rows_dot f.matrix d ++ (rows_dot f.quadratic d ++ dot (map neg_ℚ f.cost) d ∷ [])
 products f d = rows_dot-append f.matrix (f.quadratic ++ map neg_ℚ f.cost ∷ []) d
     ∙ ap (λ l. rows_dot f.matrix d ++ l) (rows_dot-append f.quadratic (map neg_ℚ f.cost ∷ []) d)
 
@@ -63,9 +63,9 @@ solution_is_ray f d s =
 pub ray_is_solution : (f : Form) (d : List ℚ) → IsFormRay f d → linear.IsSolution (ray_problem f) d
 ray_is_solution f d r = record {
   size = r.width;
-  same = products f d ∙ ap (λ l. l ++ rows_dot f.quadratic d ++ dot (map neg_ℚ f.cost) d ∷ []) r.equal
-      ∙ ap (λ l. zeros (length f.matrix) ++ l ++ dot (map neg_ℚ f.cost) d ∷ []) r.flat
-      ∙ ap (λ x. zeros (length f.matrix) ++ zeros (length f.quadratic) ++ x ∷ []) (dot-negated f.cost d ∙ ap neg_ℚ r.falls
+  same = products f d ∙ ap (λ l. l ++ (rows_dot f.quadratic d ++ dot (map neg_ℚ f.cost) d ∷ [])) r.equal
+      ∙ ap (λ l. zeros (length f.matrix) ++ (l ++ dot (map neg_ℚ f.cost) d ∷ [])) r.flat
+      ∙ ap (λ x. zeros (length f.matrix) ++ (zeros (length f.quadratic) ++ x ∷ [])) (dot-negated f.cost d ∙ ap neg_ℚ r.falls
       ∙ ring rationals [] (minus (minus (lit 1)) ≐ lit 1) refl);
   nonneg = r.not_negative;
 }

@@ -12,8 +12,8 @@ abbrev pub ray_problem : Form → Problem
 ray_problem f =
     record {
       given = length f.cost;
-      rows = f.matrix ++ f.quadratic ++ map neg_ℚ f.cost ∷ [];
-      right = zeros (length f.matrix) ++ zeros (length f.quadratic) ++ one_ℚ ∷ [];
+      rows = f.matrix ++ (f.quadratic ++ map neg_ℚ f.cost ∷ []);
+      right = zeros (length f.matrix) ++ (zeros (length f.quadratic) ++ one_ℚ ∷ []);
     }
 
 -- the places of the entries that are not 0, where the first entry has the place k
