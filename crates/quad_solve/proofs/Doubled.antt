@@ -1,7 +1,7 @@
 -- Supports, and rows over two columns for each place of a support.
 use Rattle.std.proofs.Common.{◌≡◌, ◌≢◌, refl, sym, ◌∙◌, ap, subst, ℕ, zero, suc, ◌+◌, ◌≤◌, Bool, true, false, List, [], ◌∷◌, ◌++◌, length, map, if◌then◌else◌, arith}
 use Rattle.std.specs.Prelude.{take, drop, All}
-use Rattle.std.proofs.lemmas.List.{length-append, length-map, take-append-drop}
+use Rattle.std.proofs.lemmas.List.{length-append, take-append-drop}
 use Rattle.std.proofs.lemmas.List.Elements.{All-nil, All-cons, All-head, All-tail}
 use Rattle.algebra.proofs.Polynomial.{minus, ◌⊕◌, ◌⊗◌, ◌≐◌, lit}
 use Rattle.algebra.proofs.Solver.{ring}
@@ -56,11 +56,11 @@ on_places P u k (x ∷ z) zero j e h n = by (same_fields x zero_ℚ) refl h
     by : (b : Bool) → same_fields x zero_ℚ ≡ b → All P (pick (if b then places (suc k) z else k ∷ places (suc k) z) u) → P (entry u j)
     by true t r = absurd (n (same_fields_lem x zero_ℚ t))
     by false t r = let s : k ≡ j = omega (arith, e) in subst (λ (i : ℕ). P (entry u i)) s (All-head P (entry u k) (pick (places (suc k) z) u) r)
-on_places P u k (x ∷ z) (suc i) j e h n = by (same_fields x zero_ℚ) h
+on_places P u k (x ∷ z) (suc i) j e h n = by (same_fields x zero_ℚ) (λ r. on_places P u (suc k) z i j (omega arith) r n) h
   where
-    by : (b : Bool) → All P (pick (if b then places (suc k) z else k ∷ places (suc k) z) u) → P (entry u j)
-    by true r = on_places P u (suc k) z i j (omega arith) r n
-    by false r = on_places P u (suc k) z i j (omega arith) (All-tail P (entry u k) (pick (places (suc k) z) u) r) n
+    by : (b : Bool) → (All P (pick (places (suc k) z) u) → P (entry u j)) → All P (pick (if b then places (suc k) z else k ∷ places (suc k) z) u) → P (entry u j)
+    by true f r = f r
+    by false f r = f (All-tail P (entry u k) (pick (places (suc k) z) u) r)
 
 -- ---- doubled rows
 

@@ -1,3 +1,5 @@
 pub mod Lists
 pub mod Directions
 pub mod Doubled
+pub mod Descents
+pub mod Moves
