@@ -3,3 +3,5 @@ pub mod Directions
 pub mod Doubled
 pub mod Descents
 pub mod Moves
+pub mod Refuted
+pub mod Stationary

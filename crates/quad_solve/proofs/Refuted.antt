@@ -46,13 +46,13 @@ divided_eq a t g i e h k =
     prove ordered_rationals (a ∷ t ∷ g ∷ i ∷ []) (λ a t g i. i ⊗ a ≐ g ⇐ scaled i (a ⊕ t ⊗ minus g) (lit 0) ⊞ scaled g (t ⊗ i) (lit 1)) refl z e
 
 module _ (n : ℕ) (f : Form) (z w : List ℚ) (form : IsForm n f) (farkas : linear.IsFarkas (price_problem f z) w) where
-  m : ℕ
+  abbrev m : ℕ
   m = length f.matrix
 
-  t : ℚ
+  abbrev t : ℚ
   t = last_number f w
 
-  y : List ℚ
+  abbrev y : List ℚ
   y = take m w
 
   size : length w ≡ suc m
@@ -73,7 +73,7 @@ module _ (n : ℕ) (f : Form) (z w : List ℚ) (form : IsForm n f) (farkas : lin
   inverse : t *ℚ reciprocal t ≡ one_ℚ
   inverse = mul-reciprocal t (λ e. lt_irrefl zero_ℚ (subst (λ s. s <ℚ zero_ℚ) e last_below))
 
-  sum : List ℚ
+  abbrev sum : List ℚ
   sum = combine (length f.cost) w (price_rows f (slope f z))
 
   all_sums : All (λ x. zero_ℚ ≤ℚ x) (sum ++ map neg_ℚ (pick (support z) sum))
