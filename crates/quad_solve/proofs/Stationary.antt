@@ -19,23 +19,23 @@ use Rattle.quad_solve.specs.Problems.{slope}
 use Rattle.quad_solve.specs.Steps.{IsStationaryBy, HaveSameSupport, height}
 use Rattle.quad_solve.proofs.Descents.{wide_matrix, length-slope}
 
+abbrev taken : Form → List ℚ → List ℚ
+taken f μ = combine (length f.cost) μ f.matrix
+
 -- a stationary point has no slope along a direction that M takes to 0 and that is 0 where the point is
 no_slope : (n : ℕ) (f : Form) (z μ d : List ℚ) → IsForm n f → IsStationaryBy f z μ → rows_dot f.matrix d ≡ zeros (length f.matrix)
     → ((j : ℕ) → entry z j ≡ zero_ℚ → entry d j ≡ zero_ℚ) → dot (slope f z) d ≡ zero_ℚ
 no_slope n f z μ d form st equal off =
-    let same : length (slope f z) ≡ length given = length-slope n f z form ∙ sym (length-combine (length f.cost) μ f.matrix (wide_matrix n f form)) in
-    let both : dot (add_each (slope f z) given) d ≡ zero_ℚ = dot-zero (add_each (slope f z) given) d
-    (λ j l. ap (λ t. t *ℚ entry d j) (entry-add_each (slope f z) given j same) ∙ by j (same_fields (entry z j) zero_ℚ) refl) in
-    let none : dot given d ≡ zero_ℚ = sym (transpose (length f.cost) μ f.matrix d (wide_matrix n f form)) ∙ ap (dot μ) equal ∙ dot-zeros_right μ (length f.matrix) in
-    prove ordered_rationals (dot (slope f z) d ∷ dot given d ∷ dot (add_each (slope f z) given) d ∷ [])
+    let same : length (slope f z) ≡ length (taken f μ) = length-slope n f z form ∙ sym (length-combine (length f.cost) μ f.matrix (wide_matrix n f form)) in
+    let both : dot (add_each (slope f z) (taken f μ)) d ≡ zero_ℚ = dot-zero (add_each (slope f z) (taken f μ)) d
+    (λ j l. ap (λ t. t *ℚ entry d j) (entry-add_each (slope f z) (taken f μ) j same) ∙ by j (same_fields (entry z j) zero_ℚ) refl) in
+    let none : dot (taken f μ) d ≡ zero_ℚ = sym (transpose (length f.cost) μ f.matrix d (wide_matrix n f form)) ∙ ap (dot μ) equal ∙ dot-zeros_right μ (length f.matrix) in
+    prove ordered_rationals (dot (slope f z) d ∷ dot (taken f μ) d ∷ dot (add_each (slope f z) (taken f μ)) d ∷ [])
     (λ s g b. s ≐ lit 0 ⇐ scaled (minus (lit 1)) b (s ⊕ g) ⊞ given (b ≐ lit 0) ⊞ scaled (minus (lit 1)) g (lit 0)) refl
-    (dot-add_left (slope f z) given d same) both none
+    (dot-add_left (slope f z) (taken f μ) d same) both none
   where
-    abbrev given : List ℚ
-    given = combine (length f.cost) μ f.matrix
-
-    by : (j : ℕ) (b : Bool) → same_fields (entry z j) zero_ℚ ≡ b → (entry (slope f z) j +ℚ entry given j) *ℚ entry d j ≡ zero_ℚ
-    by j true e = ap (λ t. (entry (slope f z) j +ℚ entry given j) *ℚ t) (off j (same_fields_lem (entry z j) zero_ℚ e)) ∙ laws.mul_zero rationals (entry (slope f z) j +ℚ entry given j)
+    by : (j : ℕ) (b : Bool) → same_fields (entry z j) zero_ℚ ≡ b → (entry (slope f z) j +ℚ entry (taken f μ) j) *ℚ entry d j ≡ zero_ℚ
+    by j true e = ap (λ t. (entry (slope f z) j +ℚ entry (taken f μ) j) *ℚ t) (off j (same_fields_lem (entry z j) zero_ℚ e)) ∙ laws.mul_zero rationals (entry (slope f z) j +ℚ entry (taken f μ) j)
     by j false e = ap (λ t. (entry (slope f z) j +ℚ t) *ℚ entry d j) (st.on_support j (differ_of_same_fields (entry z j) zero_ℚ e))
         ∙ ring rationals (entry (slope f z) j ∷ entry d j ∷ []) (λ g d. (g ⊕ minus g) ⊗ d ≐ lit 0) refl
 
