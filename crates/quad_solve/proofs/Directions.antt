@@ -1,22 +1,23 @@
 -- The ray problem and the rays of a form.
 use Rattle.std.proofs.Common.{◌≡◌, refl, sym, ◌∙◌, ap, subst, ℕ, zero, suc, ◌+◌, List, [], ◌∷◌, ◌++◌, length, map, arith}
-use Rattle.std.specs.Prelude.{All, replicate}
+use Rattle.std.specs.Prelude.{All, ◌↔◌}
 use Rattle.std.proofs.lemmas.List.{length-append}
 use Rattle.std.proofs.lemmas.List.Elements.{All-nil, All-cons, All-append}
-use Rattle.algebra.proofs.Polynomial.{minus, ◌≼◌, ◌≐◌, lit}
+use Rattle.algebra.proofs.Polynomial.{minus, ◌⊕◌, ◌⊗◌, ◌≼◌, ◌≐◌, lit}
 use Rattle.algebra.proofs.Certificate.{prove, given, weight, ◌⇐◌}
 use Rattle.algebra.proofs.Solver.{ring}
 use Rattle.rational.specs.Rational.{ℚ, zero_ℚ, one_ℚ, neg_ℚ}
 use Rattle.rational.specs.Order.{◌≤ℚ◌}
-use Rattle.rational.specs.Vectors.{dot, zeros, rows_dot, HasColumns}
+use Rattle.rational.specs.Vectors.{dot, zeros, rows_dot, combine, HasColumns}
 use Rattle.rational.proofs.Field.{rationals}
 use Rattle.rational.proofs.Order.{ordered_rationals, le_refl}
 use Rattle.rational.proofs.Vectors.{length-rows_dot, length-zeros, rows_dot-append}
 use Rattle.linear_basis.specs.Problem as linear
 use Rattle.linear_basis.proofs.Verdicts.{not_both}
 use Rattle.equational.specs.Form.{Form}
-use Rattle.equational.specs.Solutions.{IsForm, IsFormRay}
-use Rattle.quad_solve.specs.Problems.{ray_problem}
+use Rattle.equational.specs.Solutions.{IsForm, IsSolution, IsFormRay}
+use Rattle.equational.specs.Optimal.{IsRefutation}
+use Rattle.quad_solve.specs.Problems.{ray_problem, feasible_problem, falling_form}
 use Rattle.quad_solve.proofs.Lists.{parts_same, only_same, dot-negated, length-negated, length-with_last}
 
 pub zeros_nonneg : (m : ℕ) → All (λ x. zero_ℚ ≤ℚ x) (zeros m)
@@ -72,3 +73,29 @@ ray_is_solution f d r = record {
 
 pub refuted_has_none : (n : ℕ) (f : Form) (d y : List ℚ) → IsForm n f → linear.IsFarkas (ray_problem f) y → IsFormRay f d → ⊥
 refuted_has_none n f d y h k r = not_both (ray_problem f) d y (rays_form_a_problem n f h) (ray_is_solution f d r) k
+
+-- minimise -x has the ray 1
+pub falling_form_falls : linear.IsSolution (ray_problem falling_form) (one_ℚ ∷ [])
+falling_form_falls = ray_is_solution falling_form (one_ℚ ∷ []) (record {
+  width = refl;
+  equal = refl;
+  flat = ap (λ x. x ∷ []) (ring rationals [] (lit 0 ⊗ lit 1 ⊕ lit 0 ≐ lit 0) refl);
+  falls = ring rationals [] (minus (lit 1) ⊗ lit 1 ⊕ lit 0 ≐ minus (lit 1)) refl;
+  not_negative = one_nonneg;
+})
+
+-- ---- the feasible problem
+
+pub feasible_is_a_problem : (n : ℕ) (f : Form) → IsForm n f → linear.IsProblem (feasible_problem f)
+feasible_is_a_problem n f h = record { rows = sym h.right; columns = subst (λ k. HasColumns k f.matrix) (sym h.cost) h.columns; nonneg = h.not_negative }
+
+pub feasible_solutions : (f : Form) (z : List ℚ) → linear.IsSolution (feasible_problem f) z ↔ IsSolution f z
+feasible_solutions f z = (λ s. record { width = s.size; equal = s.same; not_negative = s.nonneg }, λ s. record { size = s.width; same = s.equal; nonneg = s.not_negative })
+
+pub feasible_refutations : (n : ℕ) (f : Form) (y : List ℚ) → IsForm n f → linear.IsFarkas (feasible_problem f) y ↔ IsRefutation n f y
+feasible_refutations n f y h =
+    (λ k. record { size = k.size; not_negative = subst (λ m. All (λ x. zero_ℚ ≤ℚ x) (combine m y f.matrix)) h.cost k.nonneg; below = k.below },
+    λ k. record { size = k.size; nonneg = subst (λ m. All (λ x. zero_ℚ ≤ℚ x) (combine m y f.matrix)) (sym h.cost) k.not_negative; below = k.below })
+
+pub never_both : (n : ℕ) (f : Form) (z y : List ℚ) → IsForm n f → IsSolution f z → IsRefutation n f y → ⊥
+never_both n f z y h s k = not_both (feasible_problem f) z y (feasible_is_a_problem n f h) ((feasible_solutions f z).1 s) ((feasible_refutations n f y h).1 k)

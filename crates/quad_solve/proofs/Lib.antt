@@ -5,3 +5,4 @@ pub mod Descents
 pub mod Moves
 pub mod Refuted
 pub mod Stationary
+pub mod Counts

@@ -1,4 +1,4 @@
--- The ray problem of a form, the price problem at a point of it, and what their solutions and Farkas vectors are read as.
+-- The feasible and the ray problem of a form, the price problem at a point of it, and what their solutions and Farkas vectors are read as.
 use Rattle.std.specs.Prelude.{ℕ, zero, suc, ◌+◌, List, [], ◌∷◌, ◌++◌, length, map, take, drop, if◌then◌else◌}
 use Rattle.rational.specs.Rational.{ℚ, zero_ℚ, one_ℚ, neg_ℚ, ◌/ℚ◌}
 use Rattle.rational.specs.Order.{same_fields}
@@ -6,6 +6,10 @@ use Rattle.rational.specs.Sums.{entry}
 use Rattle.rational.specs.Vectors.{add_each, zeros, pick, put_at, gradient}
 use Rattle.linear_basis.specs.Problem.{Problem}
 use Rattle.equational.specs.Form.{Form}
+
+-- M z = r, over the form's columns
+abbrev pub feasible_problem : Form → Problem
+feasible_problem f = record { given = length f.cost; rows = f.matrix; right = f.right }
 
 -- M d = 0, then Q d = 0, then -c · d = 1, over the form's columns
 abbrev pub ray_problem : Form → Problem
@@ -62,3 +66,7 @@ last_number f w = entry w (length f.matrix)
 -- the multipliers of a Farkas vector of the price problem: the entries of the equations of M, divided by the last entry
 abbrev pub price_multipliers : Form → List ℚ → List ℚ
 price_multipliers f w = map (λ y. y /ℚ last_number f w) (take (length f.matrix) w)
+
+-- minimise -x, where x is not below 0 and nothing else is asked
+abbrev pub falling_form : Form
+falling_form = record { matrix = []; right = []; quadratic = (zero_ℚ ∷ []) ∷ []; cost = neg_ℚ one_ℚ ∷ []; constant = zero_ℚ }

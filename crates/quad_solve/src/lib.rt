@@ -9,4 +9,6 @@ pub use prices::{
     price_problem_leads_down, price_step_falls, refuted_price_is_optimal,
     supports_of_stationary_points_differ,
 };
-pub use rays::ray_problem_tells_rays;
+pub use rays::{
+    chains_of_a_form_are_short, feasible_problem_tells_solutions, ray_problem_tells_rays,
+};
