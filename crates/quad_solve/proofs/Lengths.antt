@@ -64,22 +64,22 @@ nearest z (a ∷ d) = by (le_or_lt zero_ℚ a) (nearest (λ j. z (suc j)) d)
         ⊎_elim (λ l. inr (here first.0 b first.1 (λ j c. shorter (z (suc j)) (entry d j) first.0 n.s c l (n.kept j c))))
         (λ l. inr (later n (λ c. shorter (z 0) a n.s first.0 b (lt_le n.s first.0 l) (le_of_eq (sym first.1))))) (le_or_lt first.0 n.s)
 
-module _ (n : ℕ) (f : Form) (z d : List ℚ) (form : IsForm n f) (semi : IsSemidefinite n f.quadratic) (at : IsSolution f z) (down : LeadsDown f z d) where
+module _ (n : ℕ) (f : Form) (z d : List ℚ) (form : IsForm n f) (semi : IsSemidefinite n f.quadratic) (down : LeadsDown f z d) where
   curved : zero_ℚ ≤ℚ curvature f d
   curved = semi.nonneg d (down.size ∙ form.cost)
 
   step_to : (m : Nearest (entry z) d) → (m.s *ℚ curvature f d) ≤ℚ one_ℚ → (s : ℚ) × IsPriceStep f z d s
   step_to m h = (m.s, record { zeros = m.kept; minimum = h; met = inl (m.at, m.below, m.met) })
 
-  pub some_step : ¬ (IsFormRay f d) → (s : ℚ) × IsPriceStep f z d s
-  some_step none = by (le_or_lt (curvature f d) zero_ℚ) (nearest (entry z) d)
+  pub some_step : IsSolution f z → ¬ (IsFormRay f d) → (s : ℚ) × IsPriceStep f z d s
+  some_step at none = by (le_or_lt (curvature f d) zero_ℚ) (nearest (entry z) d)
     where
       by : (curvature f d ≤ℚ zero_ℚ) ⊎ (zero_ℚ <ℚ curvature f d) → (All (λ x. zero_ℚ ≤ℚ x) d) ⊎ Nearest (entry z) d → (s : ℚ) × IsPriceStep f z d s
       by (inl k) (inl all) =
           let some = flat_lessens n f z d form semi down at (le_antisymm (curvature f d) zero_ℚ k curved) none in
           absurd (not-le_of_lt some.1 (entry_nonneg d all some.0))
       by (inl k) (inr m) = step_to m
-          (prove ordered_rationals (m.s ∷ curvature f d ∷ []) (λ s k. s ⊗ k ≼ lit 1 ⇐ scaled (minus s) k (lit 0) ⊞ Rattle.algebra.proofs.Certificate.weight 1) refl
+          (prove ordered_rationals (m.s ∷ curvature f d ∷ []) (λ s k. s ⊗ k ≼ lit 1 ⇐ scaled s k (lit 0) ⊞ Rattle.algebra.proofs.Certificate.weight 1) refl
           (le_antisymm (curvature f d) zero_ℚ k curved))
       by (inr p) near =
           let c = reciprocal (curvature f d) in

@@ -6,3 +6,4 @@ pub mod Moves
 pub mod Refuted
 pub mod Stationary
 pub mod Counts
+pub mod Lengths

@@ -20,7 +20,8 @@ pub fn price_problem_leads_down()
 {}
 
 /// A price step goes some way, to a solution of the form with a lesser value. Where the form has no ray, a direction that
-/// leads down without curvature lessens some entry.
+/// leads down without curvature lessens some entry; so there is a price step along each direction that leads down, and one
+/// only.
 pub fn price_step_falls()
     ensures goes { (n : ℕ) (f : Form) (z d : List ℚ) (s : ℚ) → IsForm n f → IsSemidefinite n f.quadratic → LeadsDown f z d →
         IsPriceStep f z d s → zero_ℚ <ℚ s }
@@ -30,6 +31,10 @@ pub fn price_step_falls()
         LeadsDown f z d → IsPriceStep f z d s → height f (moved z s d) <ℚ height f z }
     ensures lessens { (n : ℕ) (f : Form) (z d : List ℚ) → IsForm n f → IsSemidefinite n f.quadratic → IsSolution f z →
         LeadsDown f z d → curvature f d ≡ zero_ℚ → ¬ (IsFormRay f d) → (j : ℕ) × (entry d j <ℚ zero_ℚ) }
+    ensures some { (n : ℕ) (f : Form) (z d : List ℚ) → IsForm n f → IsSemidefinite n f.quadratic → IsSolution f z →
+        LeadsDown f z d → ¬ (IsFormRay f d) → (s : ℚ) × IsPriceStep f z d s }
+    ensures one { (n : ℕ) (f : Form) (z d : List ℚ) (s t : ℚ) → IsForm n f → IsSemidefinite n f.quadratic → LeadsDown f z d →
+        IsPriceStep f z d s → IsPriceStep f z d t → s ≡ t }
 {}
 
 /// A Farkas vector of the price problem has a last entry below 0, and gives the multipliers that show the point optimal.
