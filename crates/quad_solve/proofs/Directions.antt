@@ -1,10 +1,10 @@
 -- The ray problem and the rays of a form.
-use Rattle.std.proofs.Common.{◌≡◌, refl, sym, ◌∙◌, ap, subst, ℕ, zero, suc, ◌+◌, List, [], ◌∷◌, ◌++◌, length, map, arith}
+use Rattle.std.proofs.Common.{◌≡◌, refl, sym, ◌∙◌, ap, subst, ℕ, zero, suc, ◌+◌, List, [], ◌∷◌, ◌++◌, length, map}
 use Rattle.std.specs.Prelude.{All, ◌↔◌}
 use Rattle.std.proofs.lemmas.List.{length-append}
 use Rattle.std.proofs.lemmas.List.Elements.{All-nil, All-cons, All-append}
 use Rattle.algebra.proofs.Polynomial.{minus, ◌⊕◌, ◌⊗◌, ◌≼◌, ◌≐◌, lit}
-use Rattle.algebra.proofs.Certificate.{prove, given, weight, ◌⇐◌}
+use Rattle.algebra.proofs.Certificate.{prove, weight, ◌⇐◌}
 use Rattle.algebra.proofs.Solver.{ring}
 use Rattle.rational.specs.Rational.{ℚ, zero_ℚ, one_ℚ, neg_ℚ}
 use Rattle.rational.specs.Order.{◌≤ℚ◌}
@@ -18,7 +18,7 @@ use Rattle.equational.specs.Form.{Form}
 use Rattle.equational.specs.Solutions.{IsForm, IsSolution, IsFormRay}
 use Rattle.equational.specs.Optimal.{IsRefutation}
 use Rattle.quad_solve.specs.Problems.{ray_problem, feasible_problem, falling_form}
-use Rattle.quad_solve.proofs.Lists.{parts_same, only_same, dot-negated, length-negated, length-with_last}
+use Rattle.quad_solve.proofs.Lists.{parts_same, only_same, dot-negated, length-negated}
 
 pub zeros_nonneg : (m : ℕ) → All (λ x. zero_ℚ ≤ℚ x) (zeros m)
 zeros_nonneg zero = All-nil (λ x. zero_ℚ ≤ℚ x)
@@ -93,9 +93,10 @@ pub feasible_solutions : (f : Form) (z : List ℚ) → linear.IsSolution (feasib
 feasible_solutions f z = (λ s. record { width = s.size; equal = s.same; not_negative = s.nonneg }, λ s. record { size = s.width; same = s.equal; nonneg = s.not_negative })
 
 pub feasible_refutations : (n : ℕ) (f : Form) (y : List ℚ) → IsForm n f → linear.IsFarkas (feasible_problem f) y ↔ IsRefutation n f y
-feasible_refutations n f y h =
-    (λ k. record { size = k.size; not_negative = subst (λ m. All (λ x. zero_ℚ ≤ℚ x) (combine m y f.matrix)) h.cost k.nonneg; below = k.below },
-    λ k. record { size = k.size; nonneg = subst (λ m. All (λ x. zero_ℚ ≤ℚ x) (combine m y f.matrix)) (sym h.cost) k.not_negative; below = k.below })
+feasible_refutations n f y h = (
+  λ k. record { size = k.size; not_negative = subst (λ m. All (λ x. zero_ℚ ≤ℚ x) (combine m y f.matrix)) h.cost k.nonneg; below = k.below },
+  λ k. record { size = k.size; nonneg = subst (λ m. All (λ x. zero_ℚ ≤ℚ x) (combine m y f.matrix)) (sym h.cost) k.not_negative; below = k.below },
+)
 
 pub never_both : (n : ℕ) (f : Form) (z y : List ℚ) → IsForm n f → IsSolution f z → IsRefutation n f y → ⊥
 never_both n f z y h s k = not_both (feasible_problem f) z y (feasible_is_a_problem n f h) ((feasible_solutions f z).1 s) ((feasible_refutations n f y h).1 k)

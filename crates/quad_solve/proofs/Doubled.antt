@@ -1,18 +1,15 @@
 -- Supports, and rows over two columns for each place of a support.
-use Rattle.std.proofs.Common.{◌≡◌, ◌≢◌, refl, sym, ◌∙◌, ap, subst, ℕ, zero, suc, ◌+◌, ◌≤◌, Bool, true, false, List, [], ◌∷◌, ◌++◌, length, map, if◌then◌else◌, arith}
+use Rattle.std.proofs.Common.{◌≡◌, ◌≢◌, refl, sym, ◌∙◌, ap, subst, ℕ, zero, suc, ◌+◌, ◌≤◌, Bool, true, false, List, [], ◌∷◌, length, map, if◌then◌else◌, arith}
 use Rattle.std.specs.Prelude.{take, drop, All}
 use Rattle.std.proofs.lemmas.List.{length-append, take-append-drop}
 use Rattle.std.proofs.lemmas.List.Elements.{All-nil, All-cons, All-head, All-tail}
-use Rattle.algebra.proofs.Polynomial.{minus, ◌⊕◌, ◌⊗◌, ◌≐◌, lit}
-use Rattle.algebra.proofs.Solver.{ring}
-use Rattle.rational.specs.Rational.{ℚ, zero_ℚ, one_ℚ, neg_ℚ, ◌+ℚ◌}
-use Rattle.rational.specs.Order.{◌≤ℚ◌, same_fields, same_fields_lem, differ_of_same_fields}
+use Rattle.rational.specs.Rational.{ℚ, zero_ℚ, neg_ℚ, ◌+ℚ◌}
+use Rattle.rational.specs.Order.{same_fields, same_fields_lem, differ_of_same_fields}
 use Rattle.rational.specs.Sums.{entry}
-use Rattle.rational.specs.Vectors.{dot, add_each, pick, put_at, rows_dot, combine, HasColumns}
-use Rattle.rational.proofs.Field.{rationals}
+use Rattle.rational.specs.Vectors.{dot, pick, put_at, rows_dot, combine, HasColumns}
 use Rattle.rational.proofs.Vectors.{length-combine, dot-append, dot-add_right, dot_comm, transpose, same_by_dot}
 use Rattle.rational.proofs.Supports.{length-pick, length-put_at, dot-pick}
-use Rattle.quad_solve.specs.Problems.{places, support, doubled, difference}
+use Rattle.quad_solve.specs.Problems.{places, doubled, difference}
 use Rattle.quad_solve.proofs.Lists.{dot-negated, length-negated, length-taken}
 
 -- ---- supports

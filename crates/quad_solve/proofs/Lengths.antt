@@ -1,8 +1,8 @@
 -- There is a price step, and its length is told by the direction.
-use Rattle.std.proofs.Common.{◌≡◌, refl, sym, ◌∙◌, ap, subst, ℕ, zero, suc, ◌⊎◌, inl, inr, ⊎_elim, List, [], ◌∷◌, length, arith}
+use Rattle.std.proofs.Common.{◌≡◌, refl, sym, ◌∙◌, subst, ℕ, zero, suc, ◌⊎◌, inl, inr, ⊎_elim, List, [], ◌∷◌}
 use Rattle.std.specs.Prelude.{All}
 use Rattle.std.proofs.lemmas.List.Elements.{All-nil, All-cons}
-use Rattle.algebra.proofs.Polynomial.{minus, ◌⊕◌, ◌⊗◌, ◌⊝◌, ◌≐◌, ◌≼◌, ◌≺◌, lit}
+use Rattle.algebra.proofs.Polynomial.{minus, ◌⊕◌, ◌⊗◌, ◌≐◌, ◌≼◌, ◌≺◌, lit}
 use Rattle.algebra.proofs.Certificate.{prove, given, scaled, ◌⊞◌, ◌⊠◌, ◌⇐◌}
 use Rattle.rational.specs.Rational.{ℚ, zero_ℚ, one_ℚ, neg_ℚ, reciprocal, ◌+ℚ◌, ◌*ℚ◌}
 use Rattle.rational.specs.Order.{◌≤ℚ◌, ◌<ℚ◌}
@@ -32,10 +32,11 @@ shorter x a s t b l h = prove ordered_rationals (x ∷ a ∷ s ∷ t ∷ [])
 
 -- a step after which x becomes 0
 zero_step : (x a : ℚ) → a <ℚ zero_ℚ → (s : ℚ) × (x +ℚ s *ℚ a ≡ zero_ℚ)
-zero_step x a b =
-    (neg_ℚ x *ℚ reciprocal a,
-    prove ordered_rationals (x ∷ a ∷ reciprocal a ∷ []) (λ x a i. x ⊕ minus x ⊗ i ⊗ a ≐ lit 0 ⇐ scaled (minus x) (a ⊗ i) (lit 1)) refl
-    (mul-reciprocal a (λ e. lt_irrefl zero_ℚ (subst (λ t. t <ℚ zero_ℚ) e b))))
+zero_step x a b = (
+  neg_ℚ x *ℚ reciprocal a,
+  prove ordered_rationals (x ∷ a ∷ reciprocal a ∷ []) (λ x a i. x ⊕ minus x ⊗ i ⊗ a ≐ lit 0 ⇐ scaled (minus x) (a ⊗ i) (lit 1)) refl
+      (mul-reciprocal a (λ e. lt_irrefl zero_ℚ (subst (λ t. t <ℚ zero_ℚ) e b))),
+)
 
 nearest : (z : ℕ → ℚ) (d : List ℚ) → (All (λ x. zero_ℚ ≤ℚ x) d) ⊎ Nearest z d
 nearest z [] = inl (All-nil (λ x. zero_ℚ ≤ℚ x))

@@ -1,5 +1,5 @@
 -- Price steps.
-use Rattle.std.proofs.Common.{◌≡◌, refl, sym, ◌∙◌, ap, subst, ℕ, zero, suc, ◌<◌, ◌⊎◌, inl, inr, ⊎_elim, List, [], ◌∷◌, length, arith}
+use Rattle.std.proofs.Common.{◌≡◌, refl, sym, ◌∙◌, ap, subst, ℕ, ◌⊎◌, inl, inr, ⊎_elim, List, [], ◌∷◌, length}
 use Rattle.std.specs.Prelude.{All}
 use Rattle.std.proofs.lemmas.List.Elements.{All-from_get_or}
 use Rattle.algebra.proofs.Polynomial.{minus, ◌⊕◌, ◌⊗◌, ◌≐◌, ◌≼◌, ◌≺◌, lit}
@@ -8,7 +8,7 @@ use Rattle.algebra.proofs.Solver.{ring}
 use Rattle.rational.specs.Rational.{ℚ, zero_ℚ, one_ℚ, neg_ℚ, ◌+ℚ◌, ◌*ℚ◌}
 use Rattle.rational.specs.Order.{◌≤ℚ◌, ◌<ℚ◌}
 use Rattle.rational.specs.Sums.{entry, half}
-use Rattle.rational.specs.Vectors.{dot, add_each, scale, zeros, rows_dot, quadratic, gradient, IsSemidefinite}
+use Rattle.rational.specs.Vectors.{dot, add_each, scale, zeros, rows_dot, IsSemidefinite}
 use Rattle.rational.proofs.Field.{rationals}
 use Rattle.rational.proofs.Order.{ordered_rationals, le_or_lt, lt_le, mul_positive, whole_positive}
 use Rattle.rational.proofs.OrderLaws.{not-le_of_lt}

@@ -1,5 +1,5 @@
 -- Stationary points with the same support.
-use Rattle.std.proofs.Common.{◌≡◌, refl, sym, ◌∙◌, ap, subst, ℕ, zero, suc, ◌+◌, Bool, true, false, List, [], ◌∷◌, length, arith}
+use Rattle.std.proofs.Common.{◌≡◌, refl, sym, ◌∙◌, ap, subst, ℕ, Bool, true, false, List, [], ◌∷◌, length, arith}
 use Rattle.algebra.proofs.Ring as laws
 use Rattle.algebra.proofs.Polynomial.{minus, ◌⊕◌, ◌⊝◌, ◌⊗◌, ◌≐◌, lit}
 use Rattle.algebra.proofs.Certificate.{prove, given, scaled, ◌⊞◌, ◌⇐◌}
@@ -10,7 +10,7 @@ use Rattle.rational.specs.Sums.{entry, half}
 use Rattle.rational.specs.Vectors.{dot, add_each, scale, zeros, rows_dot, combine, IsSymmetric}
 use Rattle.rational.proofs.Field.{rationals}
 use Rattle.rational.proofs.Order.{ordered_rationals, lt_irrefl}
-use Rattle.rational.proofs.Vectors.{length-rows_dot, length-add_each, length-scale, length-combine, entry-add_each, entry-scale, rows_dot-add, rows_dot-scale, dot-zeros_right, dot-add_left, transpose}
+use Rattle.rational.proofs.Vectors.{length-add_each, length-scale, length-combine, entry-add_each, entry-scale, rows_dot-add, rows_dot-scale, dot-zeros_right, dot-add_left, transpose}
 use Rattle.rational.proofs.Forms.{mean_gradient}
 use Rattle.linear_basis.proofs.Verdicts.{dot-zero}
 use Rattle.equational.specs.Form.{Form}
@@ -52,7 +52,7 @@ there (x ∷ z) (y ∷ w) e =
     ∙ ap (λ l. y ∷ l) (there z w (omega arith))
 
 module _ (n : ℕ) (f : Form) (z w μ ν : List ℚ) (form : IsForm n f) (sy : IsSymmetric n f.quadratic) (at : IsSolution f z) (to : IsSolution f w)
-  (same : HaveSameSupport z w) (one : IsStationaryBy f z μ) (other : IsStationaryBy f w ν) where
+    (same : HaveSameSupport z w) (one : IsStationaryBy f z μ) (other : IsStationaryBy f w ν) where
   abbrev back : List ℚ
   back = scale (neg_ℚ one_ℚ) z
 
