@@ -23,7 +23,7 @@ length-places k (x ∷ z) = by (same_fields x zero_ℚ) (length-places (suc k) z
     by false h = omega arith
 
 -- all of them are at least the place of the first entry
-from_first : (k : ℕ) (z : List ℚ) → All (λ j. k ≤ j) (places k z)
+pub from_first : (k : ℕ) (z : List ℚ) → All (λ j. k ≤ j) (places k z)
 from_first k [] = All-nil (λ j. k ≤ j)
 from_first k (x ∷ z) = by (same_fields x zero_ℚ) (λ i d l. omega (arith, from_first (suc k) z i d l))
   where

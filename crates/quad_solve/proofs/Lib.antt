@@ -7,3 +7,4 @@ pub mod Refuted
 pub mod Stationary
 pub mod Counts
 pub mod Lengths
+pub mod Every

@@ -12,11 +12,14 @@ ghost use Rattle.equational.specs.Optimal.{IsOptimality};
 ghost use Rattle.quad_solve.specs.Problems.{price_problem, direction, last_number, price_multipliers};
 ghost use Rattle.quad_solve.specs.Steps.{LeadsDown, IsPriceStep, IsStationaryBy, HaveSameSupport, curvature, height, moved};
 
-/// A solution of the price problem at a point leads down from it.
+/// A solution of the price problem at a point gives a direction that leads down from it, and each such direction comes
+/// from a solution.
 pub fn price_problem_leads_down()
     ensures problem { (n : ℕ) (f : Form) (z : List ℚ) → IsForm n f → linear.IsProblem (price_problem f z) }
     ensures direction { (n : ℕ) (f : Form) (z x : List ℚ) → IsForm n f → IsSolution f z → linear.IsSolution (price_problem f z) x →
         LeadsDown f z (direction f z x) }
+    ensures every { (n : ℕ) (f : Form) (z d : List ℚ) → IsForm n f → IsSolution f z → LeadsDown f z d →
+        (x : List ℚ) × linear.IsSolution (price_problem f z) x × (direction f z x ≡ d) }
 {}
 
 /// A price step goes some way, to a solution of the form with a lesser value. Where the form has no ray, a direction that
@@ -38,7 +41,7 @@ pub fn price_step_falls()
 {}
 
 /// A Farkas vector of the price problem has a last entry below 0, and gives the multipliers that show the point optimal.
-/// No price problem has both a solution and a Farkas vector.
+/// No price problem has both a solution and a Farkas vector; so where it has one, no direction leads down.
 pub fn refuted_price_is_optimal()
     ensures below { (n : ℕ) (f : Form) (z w : List ℚ) → IsForm n f → linear.IsFarkas (price_problem f z) w →
         last_number f w <ℚ zero_ℚ }
@@ -48,6 +51,8 @@ pub fn refuted_price_is_optimal()
         IsStationaryBy f z (map neg_ℚ (price_multipliers f w)) }
     ensures not_both { (n : ℕ) (f : Form) (z x w : List ℚ) → IsForm n f → linear.IsSolution (price_problem f z) x →
         linear.IsFarkas (price_problem f z) w → ⊥ }
+    ensures none { (n : ℕ) (f : Form) (z d w : List ℚ) → IsForm n f → IsSolution f z → linear.IsFarkas (price_problem f z) w →
+        LeadsDown f z d → ⊥ }
 {}
 
 /// Two stationary solutions with the same support have the same value; so where the values differ, the supports do.
