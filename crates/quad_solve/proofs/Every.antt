@@ -97,7 +97,7 @@ splits (x ∷ d) = by (split x) (splits d)
         none (suc j) h = m.none j h
 
 -- what has no place in the list of a support is 0
-off_support : (k : ℕ) (z : List ℚ) (i j : ℕ) → j ≡ k + i → All (λ m. m ≢ j) (places k z) → entry z i ≡ zero_ℚ
+pub off_support : (k : ℕ) (z : List ℚ) (i j : ℕ) → j ≡ k + i → All (λ m. m ≢ j) (places k z) → entry z i ≡ zero_ℚ
 off_support k [] i j e h = refl
 off_support k (x ∷ z) zero j e h = by (same_fields x zero_ℚ) refl h
   where
@@ -127,7 +127,7 @@ dropped_front (x ∷ u) v zero e = absurd (omega arith)
 dropped_front (x ∷ u) v (suc n) e = dropped_front u v n (omega arith)
 
 -- the places of a support lie within the list, and rise
-within : (k : ℕ) (z : List ℚ) → All (λ j. j < k + length z) (places k z)
+pub within : (k : ℕ) (z : List ℚ) → All (λ j. j < k + length z) (places k z)
 within k [] = All-nil (λ j. j < k + 0)
 within k (x ∷ z) = by (same_fields x zero_ℚ) (λ i d l. omega (arith, within (suc k) z i d l))
   where

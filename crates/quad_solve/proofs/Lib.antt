@@ -8,3 +8,4 @@ pub mod Stationary
 pub mod Counts
 pub mod Lengths
 pub mod Every
+pub mod Few

@@ -42,3 +42,8 @@ pub record IsStationaryBy (f : Form) (z μ : List ℚ) : Type 0 where
 -- z and w are 0 at the same places
 abbrev pub HaveSameSupport : List ℚ → List ℚ → Type 0
 HaveSameSupport z w = (j : ℕ) → (entry z j ≡ zero_ℚ) ↔ (entry w j ≡ zero_ℚ)
+
+-- z is stationary: there are such multipliers
+pub record IsStationary (f : Form) (z : List ℚ) : Type 0 where
+  pub multipliers : List ℚ
+  pub stationary : IsStationaryBy f z multipliers

@@ -7,7 +7,7 @@ mod rays;
 
 pub use prices::{
     price_problem_leads_down, price_step_falls, refuted_price_is_optimal,
-    supports_of_stationary_points_differ,
+    stationary_points_are_few, supports_of_stationary_points_differ,
 };
 pub use rays::{
     chains_of_a_form_are_short, feasible_problem_tells_solutions, ray_problem_tells_rays,

@@ -1,6 +1,6 @@
 //! The price problem at a point of a form.
 
-ghost use Rattle.std.specs.Prelude.{◌≡◌, ◌≢◌, ℕ, List, length, map};
+ghost use Rattle.std.specs.Prelude.{◌≤◌, ◌^◌, All, AllPairs, ◌≡◌, ◌≢◌, ℕ, List, length, map};
 ghost use Rattle.rational.specs.Rational.{ℚ, zero_ℚ, one_ℚ, neg_ℚ};
 ghost use Rattle.rational.specs.Order.{◌<ℚ◌};
 ghost use Rattle.rational.specs.Sums.{entry};
@@ -10,7 +10,7 @@ ghost use Rattle.equational.specs.Form.{Form};
 ghost use Rattle.equational.specs.Solutions.{IsForm, IsSolution, IsFormRay};
 ghost use Rattle.equational.specs.Optimal.{IsOptimality};
 ghost use Rattle.quad_solve.specs.Problems.{price_problem, direction, last_number, price_multipliers};
-ghost use Rattle.quad_solve.specs.Steps.{LeadsDown, IsPriceStep, IsStationaryBy, HaveSameSupport, curvature, height, moved};
+ghost use Rattle.quad_solve.specs.Steps.{LeadsDown, IsPriceStep, IsStationary, IsStationaryBy, HaveSameSupport, curvature, height, moved};
 
 /// A solution of the price problem at a point gives a direction that leads down from it, and each such direction comes
 /// from a solution.
@@ -61,4 +61,11 @@ pub fn supports_of_stationary_points_differ()
         HaveSameSupport z w → IsStationaryBy f z μ → IsStationaryBy f w ν → height f z ≡ height f w }
     ensures differ { (n : ℕ) (f : Form) (z w μ ν : List ℚ) → IsForm n f → IsSymmetric n f.quadratic → IsSolution f z → IsSolution f w →
         IsStationaryBy f z μ → IsStationaryBy f w ν → height f w <ℚ height f z → ¬ (HaveSameSupport z w) }
+{}
+
+/// Stationary solutions whose values rise along a list are at most as many as there are sets of columns. So a walk, the newest
+/// point first, whose value falls from each stationary point to the next has fewer price steps than that.
+pub fn stationary_points_are_few()
+    ensures few { (n : ℕ) (f : Form) (points : List (List ℚ)) → IsForm n f → IsSymmetric n f.quadratic → All (IsSolution f) points →
+        All (IsStationary f) points → AllPairs (λ z w. height f z <ℚ height f w) points → length points ≤ 2 ^ n }
 {}
