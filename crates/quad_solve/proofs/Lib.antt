@@ -9,3 +9,4 @@ pub mod Counts
 pub mod Lengths
 pub mod Every
 pub mod Few
+pub mod Worked

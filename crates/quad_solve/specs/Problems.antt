@@ -70,3 +70,7 @@ price_multipliers f w = map (λ y. y /ℚ last_number f w) (take (length f.matri
 -- minimise -x, where x is not below 0 and nothing else is asked
 abbrev pub falling_form : Form
 falling_form = record { matrix = []; right = []; quadratic = (zero_ℚ ∷ []) ∷ []; cost = neg_ℚ one_ℚ ∷ []; constant = zero_ℚ }
+
+-- minimise ½ x^2 - x, where x is not below 0
+abbrev pub parabola : Form
+parabola = record { matrix = []; right = []; quadratic = (one_ℚ ∷ []) ∷ []; cost = neg_ℚ one_ℚ ∷ []; constant = zero_ℚ }

@@ -1,6 +1,6 @@
 //! The price problem at a point of a form.
 
-ghost use Rattle.std.specs.Prelude.{◌≤◌, ◌^◌, All, AllPairs, ◌≡◌, ◌≢◌, ℕ, List, length, map};
+ghost use Rattle.std.specs.Prelude.{◌≤◌, ◌^◌, All, AllPairs, ◌≡◌, ◌≢◌, ℕ, List, [], ◌∷◌, length, map};
 ghost use Rattle.rational.specs.Rational.{ℚ, zero_ℚ, one_ℚ, neg_ℚ};
 ghost use Rattle.rational.specs.Order.{◌<ℚ◌};
 ghost use Rattle.rational.specs.Sums.{entry};
@@ -9,7 +9,7 @@ ghost use Rattle.linear_basis.specs.Problem as linear;
 ghost use Rattle.equational.specs.Form.{Form};
 ghost use Rattle.equational.specs.Solutions.{IsForm, IsSolution, IsFormRay};
 ghost use Rattle.equational.specs.Optimal.{IsOptimality};
-ghost use Rattle.quad_solve.specs.Problems.{price_problem, direction, last_number, price_multipliers};
+ghost use Rattle.quad_solve.specs.Problems.{price_problem, direction, last_number, price_multipliers, parabola};
 ghost use Rattle.quad_solve.specs.Steps.{LeadsDown, IsPriceStep, IsStationary, IsStationaryBy, HaveSameSupport, curvature, height, moved};
 
 /// A solution of the price problem at a point gives a direction that leads down from it, and each such direction comes
@@ -38,6 +38,7 @@ pub fn price_step_falls()
         LeadsDown f z d → ¬ (IsFormRay f d) → (s : ℚ) × IsPriceStep f z d s }
     ensures one { (n : ℕ) (f : Form) (z d : List ℚ) (s t : ℚ) → IsForm n f → IsSemidefinite n f.quadratic → LeadsDown f z d →
         IsPriceStep f z d s → IsPriceStep f z d t → s ≡ t }
+    ensures worked { LeadsDown parabola (zero_ℚ ∷ []) (one_ℚ ∷ []) × IsPriceStep parabola (zero_ℚ ∷ []) (one_ℚ ∷ []) one_ℚ }
 {}
 
 /// A Farkas vector of the price problem has a last entry below 0, and gives the multipliers that show the point optimal.
