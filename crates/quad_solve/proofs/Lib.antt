@@ -1,0 +1,12 @@
+pub mod Lists
+pub mod Directions
+pub mod Doubled
+pub mod Descents
+pub mod Moves
+pub mod Refuted
+pub mod Stationary
+pub mod Counts
+pub mod Lengths
+pub mod Every
+pub mod Few
+pub mod Worked

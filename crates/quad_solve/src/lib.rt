@@ -1,0 +1,14 @@
+//! Ray problems, price problems and price steps on a form, and their laws. Each law is the contract of a function that
+//! does nothing.
+#![tactic(auto)]
+
+mod prices;
+mod rays;
+
+pub use prices::{
+    price_problem_leads_down, price_step_falls, refuted_price_is_optimal,
+    stationary_points_are_few, supports_of_stationary_points_differ,
+};
+pub use rays::{
+    chains_of_a_form_are_short, feasible_problem_tells_solutions, ray_problem_tells_rays,
+};
