@@ -199,18 +199,6 @@ fn set_entry(p: &mut Program, i: u32, j: u32, value: i128) {
     }
 }
 
-fn set_pair(p: &mut Program, j: u32, k: u32, value: i128) {
-    if j < p.columns() && k < p.columns() {
-        p.set_pair(j, k, whole(value));
-    }
-}
-
-fn set_cost(p: &mut Program, j: u32, value: i128) {
-    if j < p.columns() {
-        p.set_cost(j, whole(value));
-    }
-}
-
 // x <= 1 and x >= 2.
 fn apart(alloc: Global) -> Result<Program, Fail> {
     let mut p = start(alloc)?;
@@ -222,28 +210,7 @@ fn apart(alloc: Global) -> Result<Program, Fail> {
     Ok(p)
 }
 
-// Minimise x^2 + 4y^2 - 32y + 64 where x + y <= 7, -x + 2y <= 4, x >= 0 and 0 <= y <= 4.
-fn first(alloc: Global) -> Result<Program, Fail> {
-    let mut p = start(alloc)?;
-    add_row(&mut p, alloc, b'a', at_most(7))?;
-    add_row(&mut p, alloc, b'b', at_most(4))?;
-    add_column(&mut p, alloc, b'x', whole(0), None, false)?;
-    add_column(&mut p, alloc, b'y', whole(0), Some(whole(4)), false)?;
-    for (i, j, value) in [(0, 0, 1i8), (0, 1, 1), (1, 0, -1), (1, 1, 2)] {
-        set_entry(&mut p, i, j, i128::from(value));
-    }
-    set_cost(&mut p, 1, -32);
-    p.set_constant(whole(64));
-    set_pair(&mut p, 0, 0, 2);
-    set_pair(&mut p, 1, 1, 8);
-    Ok(p)
-}
-
 // ---- certificates
-
-fn one(alloc: Global, a: i128) -> Result<Vector<Frac>, Memory> {
-    Vector::filled(alloc, 1, whole(a))
-}
 
 fn two(alloc: Global, a: i128, b: i128) -> Result<Vector<Frac>, Memory> {
     let mut numbers = Vector::filled(alloc, 1, whole(a))?;
@@ -265,11 +232,6 @@ fn branch(alloc: Global, k: i128, left: Node, right: Node) -> Result<Tree, Fail>
     nodes.finish().map_err(|_| Fail::new("no tree"))
 }
 
-fn add_square(squares: &mut Squares, weight: i128, coef: Vector<Frac>) -> Result<(), Memory> {
-    let weight = whole(weight);
-    squares.push(Square { weight, coef })
-}
-
 #[test]
 fn one_leaf(rt: HostRuntime) -> Result<(), Fail> {
     let p = apart(rt.alloc())?;
@@ -284,46 +246,6 @@ fn one_leaf(rt: HostRuntime) -> Result<(), Fail> {
         let c = Certificate::Infeasible(tree);
         assert!(rt; answers(rt.alloc(), &p, &c, rule, place)?);
     }
-    Ok(())
-}
-
-// A certificate of the first program: its point, value, first weight, and a tree.
-fn optimal(
-    alloc: Global,
-    x: i128,
-    v: i128,
-    weight: i128,
-    tree: Tree,
-) -> Result<Certificate, Memory> {
-    let mut squares = Squares::start(alloc);
-    add_square(&mut squares, weight, two(alloc, 1, 0)?)?;
-    add_square(&mut squares, 8, two(alloc, 0, 1)?)?;
-    Ok(Certificate::Optimal(two(alloc, x, 3)?, whole(v), squares, tree))
-}
-
-fn bound(alloc: Global, y: i128) -> Result<Node, Memory> {
-    Ok(Node::Bound(two(alloc, 2, 3)?, two(alloc, 0, y)?))
-}
-
-#[test]
-fn first_program(rt: HostRuntime) -> Result<(), Fail> {
-    let p = first(rt.alloc())?;
-    for (x, v, weight, y, rule, place) in [
-        (2, 8, 2, -4, 0, 0),
-        (2, 7, 2, -4, 4, 0),
-        (2, 8, 2, -3, 8, 1),
-        (5, 8, 2, -4, 1, 1),
-        (2, 8, 3, -4, 5, 1),
-    ] {
-        let tree = leaf(rt.alloc(), bound(rt.alloc(), y)?)?;
-        let c = optimal(rt.alloc(), x, v, weight, tree)?;
-        assert!(rt; answers(rt.alloc(), &p, &c, rule, place)?);
-    }
-    let c = optimal(rt.alloc(), 2, 8, 2, leaf(rt.alloc(), Node::Cross(0))?)?;
-    assert!(rt; answers(rt.alloc(), &p, &c, 10, 1)?);
-    let tree = branch(rt.alloc(), 2, bound(rt.alloc(), -4)?, Node::Cross(0))?;
-    let c = optimal(rt.alloc(), 2, 8, 2, tree)?;
-    assert!(rt; answers(rt.alloc(), &p, &c, 6, 1)?);
     Ok(())
 }
 
@@ -344,62 +266,5 @@ fn branches(rt: HostRuntime) -> Result<(), Fail> {
         let c = Certificate::Infeasible(tree);
         assert!(rt; answers(rt.alloc(), &p, &c, rule, place)?);
     }
-    Ok(())
-}
-
-// A ray of one column from 0, with one square of weight 2 where it is asked for.
-fn ray(alloc: Global, d: i128, square: bool) -> Result<Certificate, Memory> {
-    let mut squares = Squares::start(alloc);
-    if square {
-        add_square(&mut squares, 2, one(alloc, 1)?)?;
-    }
-    Ok(Certificate::Unbounded(one(alloc, 0)?, one(alloc, d)?, squares))
-}
-
-#[test]
-fn rays_and_vectors(rt: HostRuntime) -> Result<(), Fail> {
-    let mut p = start(rt.alloc())?;
-    add_column(&mut p, rt.alloc(), b'x', whole(0), None, true)?;
-    set_cost(&mut p, 0, -1);
-    for (d, rule, place) in [(1, 0, 0), (-1, 12, 1), (0, 14, 0)] {
-        assert!(rt; answers(rt.alloc(), &p, &ray(rt.alloc(), d, false)?, rule, place)?);
-    }
-    add_row(&mut p, rt.alloc(), b'a', at_most(3))?;
-    set_entry(&mut p, 0, 0, 2);
-    assert!(rt; answers(rt.alloc(), &p, &ray(rt.alloc(), 1, false)?, 11, 1)?);
-    set_entry(&mut p, 0, 0, 0);
-    set_pair(&mut p, 0, 0, 2);
-    assert!(rt; answers(rt.alloc(), &p, &ray(rt.alloc(), 1, true)?, 13, 1)?);
-    assert!(rt;
-        answers(
-            rt.alloc(),
-            &p,
-            &Certificate::NotConvex(one(rt.alloc(), 1)?),
-            15,
-            0
-        )?
-    );
-    set_pair(&mut p, 0, 0, -2);
-    assert!(rt;
-        answers(
-            rt.alloc(),
-            &p,
-            &Certificate::NotConvex(one(rt.alloc(), 1)?),
-            0,
-            0
-        )?
-    );
-    Ok(())
-}
-
-// x is marked, and the point 3/2 breaks the mark.
-#[test]
-fn marks(rt: HostRuntime) -> Result<(), Fail> {
-    let mut p = start(rt.alloc())?;
-    add_column(&mut p, rt.alloc(), b'x', whole(0), None, true)?;
-    let point = Vector::filled(rt.alloc(), 1, Frac::of_parts(3, 2)?)?;
-    let tree = leaf(rt.alloc(), Node::Cross(0))?;
-    let c = Certificate::Optimal(point, whole(0), Squares::start(rt.alloc()), tree);
-    assert!(rt; answers(rt.alloc(), &p, &c, 3, 1)?);
     Ok(())
 }
