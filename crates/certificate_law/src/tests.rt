@@ -2,6 +2,7 @@
 
 use crate::{Node, Tree, TreeBuilder};
 use frac_core::{Frac, Vector};
+use program_law::{Square, Squares};
 use std::test::Fail;
 
 // The builder with nodes named by letters: a branch, or one of the three leaves.
@@ -72,5 +73,18 @@ fn is_mended(finished: Result<Tree, TreeBuilder>) -> bool {
 fn builder_comes_back(rt: HostRuntime) -> Result<(), Fail> {
     let builder = built(rt, "rf")?;
     assert!(rt; is_mended(builder.finish()));
+    Ok(())
+}
+
+#[test]
+fn squares_in_order(rt: HostRuntime) -> Result<(), Fail> {
+    let mut squares = Squares::start(rt.alloc());
+    let coef = Vector::filled(rt.alloc(), 2, Frac::whole(1))?;
+    let weight = Frac::whole(3);
+    squares.push(Square { weight, coef })?;
+    assert!(rt; squares.len() == 1);
+    if 0 < squares.len() {
+        assert!(rt; squares.get(0).weight.num() == 3 && squares.get(0).coef.len() == 2);
+    }
     Ok(())
 }
