@@ -154,6 +154,3 @@ pub fn check(alloc: Global, p: &Program, c: &Certificate) -> Result<Checked, Mem
     let mut room = Room::start(alloc, p, branches_of(c))?;
     Ok(answer(checked(p, c, &mut room)))
 }
-
-#[cfg(test)]
-mod tests;
