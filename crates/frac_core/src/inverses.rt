@@ -28,3 +28,23 @@ pub fn reduced(n: u128, odd: u64) -> u64
     let taken = factor as u128 * odd as u128;
     ((n >> 64) as u64).abs_diff((taken >> 64) as u64)
 }
+
+// The negative of the inverse of an odd number modulo 2^128: one more of Newton's steps.
+fn wide_negative_inverse(odd: u128) -> u128
+    requires { odd % 2 ≡ 1 }
+    ensures { 2 ^ 128 ∣ odd * result + 1 }
+{
+    let inverse = negative_inverse((odd & 18446744073709551615) as u64) as u128;
+    inverse.wrapping_mul(odd.wrapping_mul(inverse).wrapping_add(2))
+}
+
+/// The quotient by a divisor of the number.
+pub fn exact_quotient(n: u128, divisor: u128) -> u128
+    requires positive { 0 < divisor }
+    requires divides { divisor ∣ n }
+    ensures { result ≡ n / divisor }
+{
+    let twos = divisor.trailing_zeros();
+    let inverse = wide_negative_inverse(divisor >> twos);
+    (n >> twos).wrapping_mul(inverse).wrapping_neg()
+}

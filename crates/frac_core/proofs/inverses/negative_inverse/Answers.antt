@@ -18,7 +18,7 @@ loop-preserved c =
     let j = 2 ^ i in
     let small : j ≤ 2 ^ 5 = pow-le-pow_right {n = 2} (omega arith) {i = i} {j = 5} (omega (arith, c.loop-test.true)) in
     let twice : j + j ≡ 2 ^ (i + 1) = omega (arith, doubled i) in
-    subst (λ t. 2 ^ t ∣ o * n + 1) twice (newton o x j (64 - (j + j)) (omega arith) c.loop.invariant)
+    subst (λ t. 2 ^ t ∣ o * n + 1) twice (newton 64 o x j (64 - (j + j)) (omega arith) c.loop.invariant)
 
 pub returns : goal.returns
 returns c =
