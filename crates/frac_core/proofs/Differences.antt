@@ -87,12 +87,12 @@ sign_times w z d some fits (inl e) = let t = lowest_times w z some fits in (t.0,
 sign_times w z d some fits (inr e) = let t = lowest_times w z some fits in (t.0, across (bits w) (trailing_zeros w z) z d e.0 t.0 t.1 e.1)
 
 -- the wrapped difference of words, and of the low words of longer numbers
-pub word_sign : (x y : ℕ) → x < 2 ^ 64 → y < 2 ^ 64 → IsUpToSign 64 ((x + (2 ^ 64 - y)) % 2 ^ 64) (abs_diff x y)
+pub word_sign : (x y : ℕ) → x < 2 ^ 64 → y < 2 ^ 64 → IsUpToSign 64 ((y + (2 ^ 64 - x)) % 2 ^ 64) (abs_diff x y)
 word_sign x y h k = by_order (cases_lt x y)
   where
-    by_order : (x < y) ⊎ (y ≤ x) → IsUpToSign 64 ((x + (2 ^ 64 - y)) % 2 ^ 64) (abs_diff x y)
-    by_order (inl l) = inr (1, omega arith)
-    by_order (inr l) = inl (0, omega arith)
+    by_order : (x < y) ⊎ (y ≤ x) → IsUpToSign 64 ((y + (2 ^ 64 - x)) % 2 ^ 64) (abs_diff x y)
+    by_order (inl l) = inl (0, omega arith)
+    by_order (inr l) = inr (((y + (2 ^ 64 - x)) % 2 ^ 64 + abs_diff x y) / 2 ^ 64, omega arith)
 
 pub low_sign : (x y : ℕ) → IsUpToSign 64 ((x % 2 ^ 64 + (2 ^ 64 - y % 2 ^ 64)) % 2 ^ 64) (abs_diff x y)
 low_sign x y = by_order (cases_lt x y)
@@ -121,9 +121,9 @@ pub keeps : (x y k d least : ℕ) → x % 2 ≡ 1 → y % 2 ≡ 1 → d ≡ abs_
 keeps x y k d least ox oy e f t = rw (e, f) (t.odd, omega arith, turn x y k ox oy t)
 
 pub word_keeps : (x y d least : ℕ) → x < 2 ^ 64 → y < 2 ^ 64 → x % 2 ≡ 1 → y % 2 ≡ 1 → x ≢ y → d ≡ abs_diff x y → least ≡ min x y →
-    Keeps x y (d / 2 ^ trailing_zeros w64 ((x + (2 ^ 64 - y)) % 2 ^ 64)) least
+    Keeps x y (d / 2 ^ trailing_zeros w64 ((y + (2 ^ 64 - x)) % 2 ^ 64)) least
 word_keeps x y d least h k ox oy n e f =
-    let z = (x + (2 ^ 64 - y)) % 2 ^ 64 in
+    let z = (y + (2 ^ 64 - x)) % 2 ^ 64 in
     let t = sign_times w64 z (abs_diff x y) (omega arith) (omega arith) (word_sign x y h k) in
     keeps x y (trailing_zeros w64 z) d least ox oy e f t.1
 
