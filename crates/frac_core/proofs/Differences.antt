@@ -1,12 +1,12 @@
 -- The difference of odd numbers without its factors 2.
-use Rattle.std.proofs.Common.{◌≡◌, ◌≢◌, ◌⊎◌, inl, inr, ℕ, zero, suc, ◌+◌, ◌-◌, ◌*◌, ◌/◌, ◌%◌, ◌^◌, ◌≤◌, ◌<◌, w64, arith, sym, ap, subst, ◌∙◌, refl}
+use Rattle.std.proofs.Common.{◌≡◌, ◌≢◌, ◌⊎◌, inl, inr, ℕ, zero, suc, ◌+◌, ◌-◌, ◌*◌, ◌/◌, ◌%◌, ◌^◌, ◌≤◌, ◌<◌, w64, arith, sym, ap, subst, ◌∙◌}
 use Rattle.std.specs.Prelude.{min, bit_and}
 use Rattle.std.specs.Int.{Width, w128, abs_diff, trailing_zeros}
 use mir.Val.{bits}
 use Rattle.std.proofs.lemmas.Bool.{cases_lt}
 use Rattle.std.proofs.lemmas.Nat.{pow-add, pow_pos, and_mask}
 use Rattle.std.proofs.lemmas.Nat.Bits.{bit_at-trailing_zeros}
-use Rattle.std.proofs.Math.Nat.{div-add-mod, mul-div_cancel_left, pow-succ', le_of_mul-le-mul_left}
+use Rattle.std.proofs.Math.Nat.{mul-div_cancel_left, pow-succ', le_of_mul-le-mul_left}
 use Rattle.rational.specs.Divisors.{gcd_of, gcd_comm, gcd-zero}
 use Rattle.frac_core.proofs.Twos.{gcd_double, gcd_difference, whole_shift}
 

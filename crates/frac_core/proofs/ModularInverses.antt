@@ -1,10 +1,10 @@
 -- Inverses modulo powers of two.
-use Rattle.std.proofs.Common.{◌≡◌, ◌≢◌, ◌⊎◌, inl, inr, ℕ, zero, suc, ◌+◌, ◌-◌, ◌*◌, ◌/◌, ◌%◌, ◌^◌, ◌≤◌, ◌<◌, arith, sym, ap, subst, ◌∙◌, refl}
-use Rattle.std.specs.Int.{◌∣◌, abs_diff, IsGcd}
+use Rattle.std.proofs.Common.{◌≡◌, ◌⊎◌, inl, inr, ℕ, ◌+◌, ◌*◌, ◌/◌, ◌%◌, ◌^◌, ◌≤◌, ◌<◌, arith, sym, ap, subst, ◌∙◌}
+use Rattle.std.specs.Int.{◌∣◌, abs_diff}
 use Rattle.std.proofs.lemmas.Bool.{cases_lt}
 use Rattle.std.proofs.lemmas.Nat.{pow_pos, pow-add, mul-mod_first, mul-mod_second}
 use Rattle.std.proofs.lemmas.Nat.Gcd.{same_from_IsGcd, dvd_of_mod-eq-zero, mod-eq-zero_of_dvd}
-use Rattle.std.proofs.Math.Nat.{mul-div_cancel', mul-div_cancel_left, div-mul_cancel, div-le_self, div-add-mod, dvd-mul_right, dvd-mul_left, dvd_trans, mul-dvd-mul, dvd-add_iff_right, add-mod, add-mul-mod_self_left, add-mul-mod_self_right, mod-eq_of_lt, mod-add-mod}
+use Rattle.std.proofs.Math.Nat.{mul-div_cancel', mul-div_cancel_left, div-mul_cancel, div-le_self, div-add-mod, dvd-mul_right, dvd-mul_left, dvd_trans, mul-dvd-mul, dvd-add_iff_right, add-mul-mod_self_left, add-mul-mod_self_right, mod-eq_of_lt, mod-add-mod}
 use Rattle.rational.specs.Divisors.{gcd_of, gcd_step, IsGcd-gcd_of}
 use Rattle.frac_core.proofs.Differences.{gcd_twos, IsOddTimes}
 

@@ -74,15 +74,9 @@ gcd_by_twos a b i j m ea odd eb case hi hj =
         ∙ gcd_halves (b / 2 ^ m) (a / 2 ^ m) o (j - m) (even_above b m (j - m) (subst (λ t. IsEven t b) (sym rest) eb)) ∙ gcd_comm (b / 2 ^ m) (a / 2 ^ m)
     odd_part (inr e) = ap (λ t. gcd_of (a / 2 ^ m) (b / 2 ^ t)) (sym e)
 
--- one turn of the loop over halves and differences
+-- a difference has the same divisors in common
 pub gcd_difference : (a b : ℕ) → b ≤ a → gcd_of (a - b) b ≡ gcd_of a b
 gcd_difference a b h = same_from_IsGcd a b _ _ (IsGcd-from_sub a b _ h (IsGcd-gcd_of (a - b) b)) (IsGcd-gcd_of a b)
-
-pub less_turn : (x y k g : ℕ) → y % 2 ≡ 1 → IsEven k x → x / 2 ^ k < y → gcd_of x y ≡ g → gcd_of (y - x / 2 ^ k) (x / 2 ^ k) ≡ g
-less_turn x y k g o e l h = gcd_difference y (x / 2 ^ k) (omega arith) ∙ gcd_comm y (x / 2 ^ k) ∙ gcd_halves x y o k e ∙ h
-
-pub more_turn : (x y k g : ℕ) → y % 2 ≡ 1 → IsEven k x → y ≤ x / 2 ^ k → gcd_of x y ≡ g → gcd_of (x / 2 ^ k - y) y ≡ g
-more_turn x y k g o e l h = gcd_difference (x / 2 ^ k) y l ∙ gcd_halves x y o k e ∙ h
 
 which_min : (i j : ℕ) → (min i j ≡ i) ⊎ (min i j ≡ j)
 which_min i j = by_order (cases_lt i j)

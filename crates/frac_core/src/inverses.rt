@@ -4,6 +4,8 @@ ghost use Rattle.rational.specs.Divisors.{gcd_of};
 ghost use Rattle.std.specs.Prelude.{◌≡◌, ◌%◌, ◌^◌, ◌+◌, ◌*◌, ◌/◌, ◌<◌};
 ghost use Rattle.std.specs.Int.{◌∣◌};
 
+use crate::divisors::WORD;
+
 // The negative of the inverse of an odd number modulo 2^64. Each of Newton's steps doubles how many digits of it are right.
 fn negative_inverse(odd: u64) -> u64
     requires { odd % 2 ≡ 1 }
@@ -23,7 +25,7 @@ pub fn reduced(n: u128, odd: u64) -> u64
     requires { odd % 2 ≡ 1 }
     ensures { gcd_of result odd ≡ gcd_of n odd }
 {
-    let low = (n & 18446744073709551615) as u64;
+    let low = (n & WORD) as u64;
     let factor = low.wrapping_mul(negative_inverse(odd).wrapping_neg());
     let taken = factor as u128 * odd as u128;
     ((n >> 64) as u64).abs_diff((taken >> 64) as u64)
@@ -34,7 +36,7 @@ fn wide_negative_inverse(odd: u128) -> u128
     requires { odd % 2 ≡ 1 }
     ensures { 2 ^ 128 ∣ odd * result + 1 }
 {
-    let inverse = negative_inverse((odd & 18446744073709551615) as u64) as u128;
+    let inverse = negative_inverse((odd & WORD) as u64) as u128;
     inverse.wrapping_mul(odd.wrapping_mul(inverse).wrapping_add(2))
 }
 

@@ -1,4 +1,4 @@
-use Rattle.std.proofs.Common.{◌^◌, ◌+◌, ◌*◌, ◌≤◌}
+use Rattle.std.proofs.Common.{◌^◌, ◌+◌, ◌*◌}
 use Rattle.std.specs.Int.{◌∣◌}
 use Rattle.frac_core.proofs.inverses.negative_inverse.Given as goal
 

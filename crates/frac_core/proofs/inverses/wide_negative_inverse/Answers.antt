@@ -1,5 +1,4 @@
-use Rattle.std.proofs.Common.{◌≡◌, ◌^◌, ◌*◌, ◌+◌, ◌%◌, ◌-◌, arith, subst}
-use Rattle.std.specs.Prelude.{bit_and}
+use Rattle.std.proofs.Common.{◌^◌, ◌*◌, ◌+◌, ◌%◌, arith, subst}
 use Rattle.std.specs.Int.{◌∣◌}
 use Rattle.std.proofs.lemmas.Nat.{and_mask}
 use Rattle.frac_core.proofs.ModularInverses.{newton, of_low}
