@@ -2,7 +2,8 @@
 use Rattle.std.proofs.Common.{◌≡◌, ◌⊎◌, inl, inr, ℕ, zero, suc, ◌+◌, ◌-◌, ◌*◌, ◌/◌, ◌%◌, ◌^◌, ◌≤◌, ◌<◌, arith, add-one, sym, ap, ◌∙◌, subst}
 use Rattle.std.proofs.Common.{◌≢◌, w64}
 use Rattle.std.specs.Prelude.{min}
-use Rattle.std.specs.Int.{bit_at, trailing_zeros}
+use Rattle.std.specs.Int.{Width, w128, bit_at, trailing_zeros}
+use mir.Val.{bits}
 use Rattle.std.proofs.lemmas.Bool.{cases_lt}
 use Rattle.std.proofs.lemmas.Nat.Bits.{bit_at-trailing_zeros}
 use Rattle.std.proofs.Math.Nat.{dvd-mul_left, dvd_trans, mul-dvd-mul_right, div-add-mod, mod-eq_of_lt, pow-succ'}
@@ -21,7 +22,7 @@ odd_coprime : (y : ℕ) → y % 2 ≡ 1 → gcd_of y 2 ≡ 1
 odd_coprime y h = sym (gcd_step y 2) ∙ ap (gcd_of 2) h ∙ gcd-one 2
 
 -- a factor 2 is not in common with an odd number
-gcd_double : (m y : ℕ) → y % 2 ≡ 1 → gcd_of (2 * m) y ≡ gcd_of m y
+pub gcd_double : (m y : ℕ) → y % 2 ≡ 1 → gcd_of (2 * m) y ≡ gcd_of m y
 gcd_double m y h =
     let g = gcd_of (2 * m) y in
     let is_g = IsGcd-gcd_of (2 * m) y in
@@ -40,7 +41,7 @@ gcd_halves x y odd (suc k) h =
     let e = half x k (h k (omega arith)) in
     sym (gcd_double (x / 2 ^ suc k) y odd) ∙ ap (λ t. gcd_of t y) (sym e) ∙ gcd_halves x y odd k (λ i l. h i (omega arith))
 
-whole_shift : (x k : ℕ) → IsEven k x → x / 2 ^ k * 2 ^ k ≡ x
+pub whole_shift : (x k : ℕ) → IsEven k x → x / 2 ^ k * 2 ^ k ≡ x
 whole_shift x zero h = omega arith
 whole_shift x (suc k) h =
     let e = half x k (h k (omega arith)) in
@@ -73,15 +74,9 @@ gcd_by_twos a b i j m ea odd eb case hi hj =
         ∙ gcd_halves (b / 2 ^ m) (a / 2 ^ m) o (j - m) (even_above b m (j - m) (subst (λ t. IsEven t b) (sym rest) eb)) ∙ gcd_comm (b / 2 ^ m) (a / 2 ^ m)
     odd_part (inr e) = ap (λ t. gcd_of (a / 2 ^ m) (b / 2 ^ t)) (sym e)
 
--- one turn of the loop over halves and differences
-gcd_difference : (a b : ℕ) → b ≤ a → gcd_of (a - b) b ≡ gcd_of a b
+-- a difference has the same divisors in common
+pub gcd_difference : (a b : ℕ) → b ≤ a → gcd_of (a - b) b ≡ gcd_of a b
 gcd_difference a b h = same_from_IsGcd a b _ _ (IsGcd-from_sub a b _ h (IsGcd-gcd_of (a - b) b)) (IsGcd-gcd_of a b)
-
-pub less_turn : (x y k g : ℕ) → y % 2 ≡ 1 → IsEven k x → x / 2 ^ k < y → gcd_of x y ≡ g → gcd_of (y - x / 2 ^ k) (x / 2 ^ k) ≡ g
-less_turn x y k g o e l h = gcd_difference y (x / 2 ^ k) (omega arith) ∙ gcd_comm y (x / 2 ^ k) ∙ gcd_halves x y o k e ∙ h
-
-pub more_turn : (x y k g : ℕ) → y % 2 ≡ 1 → IsEven k x → y ≤ x / 2 ^ k → gcd_of x y ≡ g → gcd_of (x / 2 ^ k - y) y ≡ g
-more_turn x y k g o e l h = gcd_difference (x / 2 ^ k) y l ∙ gcd_halves x y o k e ∙ h
 
 which_min : (i j : ℕ) → (min i j ≡ i) ⊎ (min i j ≡ j)
 which_min i j = by_order (cases_lt i j)
@@ -90,15 +85,34 @@ which_min i j = by_order (cases_lt i j)
     by_order (inl h) = inl (omega arith)
     by_order (inr h) = inr (omega arith)
 
--- what two numbers of 64 bits have in common, by their lowest digits
-pub gcd_shifted : (a b m g : ℕ) → a ≢ 0 → b ≢ 0 → a < 2 ^ 64 → b < 2 ^ 64 → m ≡ min (trailing_zeros w64 a) (trailing_zeros w64 b) →
-    g ≡ gcd_of (a / 2 ^ m) (b / 2 ^ trailing_zeros w64 b) → g * 2 ^ m % 2 ^ 64 ≡ gcd_of a b
-gcd_shifted a b m g some_a some_b fits_a fits_b em eg =
-    let ta = bit_at-trailing_zeros w64 a (omega arith) fits_a in
+-- what two numbers have in common, by their odd parts
+pub gcd_shifted : (w : Width) (a b m g : ℕ) → a ≢ 0 → b ≢ 0 → a < 2 ^ bits w → b < 2 ^ bits w → m ≡ min (trailing_zeros w a) (trailing_zeros w b) →
+    g ≡ gcd_of (a / 2 ^ trailing_zeros w a) (b / 2 ^ trailing_zeros w b) → g * 2 ^ m % 2 ^ bits w ≡ gcd_of a b
+gcd_shifted w a b m g some_a some_b fits_a fits_b em eg =
+    let ta = bit_at-trailing_zeros w a (omega arith) fits_a in
+    let tb = bit_at-trailing_zeros w b (omega arith) fits_b in
+    let i = trailing_zeros w a in
+    let j = trailing_zeros w b in
+    let case = subst (λ n. (n ≡ i) ⊎ (n ≡ j)) (sym em) (which_min i j) in
+    let le_i : m ≤ i = omega arith in
+    let rest : m + (i - m) ≡ i = omega arith in
+    let odd : gcd_of (a / 2 ^ i) (b / 2 ^ j) ≡ gcd_of (a / 2 ^ m) (b / 2 ^ j) = ap (λ t. gcd_of (a / 2 ^ t) (b / 2 ^ j)) (sym rest) ∙ ap (λ t. gcd_of t (b / 2 ^ j)) (sym (shr-shr a m (i - m)))
+    ∙ gcd_halves (a / 2 ^ m) (b / 2 ^ j) tb.1 (i - m) (even_above a m (i - m) (subst (λ t. IsEven t a) (sym rest) ta.2)) in
+    let e : g * 2 ^ m ≡ gcd_of a b = ap (λ t. t * 2 ^ m) (eg ∙ odd) ∙ gcd_by_twos a b i j m ta.2 ta.1 tb.2 case le_i (omega arith) in
+    let small : gcd_of a b < 2 ^ bits w = omega (arith, gcd_le a b (omega arith)) in
+    ap (λ t. t % 2 ^ bits w) e ∙ mod-eq_of_lt small
+
+-- the same of a longer number with one of 64 bits, which alone is divided by its factors 2
+pub gcd_long : (a b m g : ℕ) → a ≢ 0 → b ≢ 0 → a < 2 ^ 128 → b < 2 ^ 64 → m ≡ min (trailing_zeros w128 a) (trailing_zeros w64 b) →
+    g ≡ gcd_of a (b / 2 ^ trailing_zeros w64 b) → g * 2 ^ m % 2 ^ 64 ≡ gcd_of a b
+gcd_long a b m g some_a some_b fits_a fits_b em eg =
+    let ta = bit_at-trailing_zeros w128 a (omega arith) fits_a in
     let tb = bit_at-trailing_zeros w64 b (omega arith) fits_b in
-    let i = trailing_zeros w64 a in
+    let i = trailing_zeros w128 a in
     let j = trailing_zeros w64 b in
     let case = subst (λ n. (n ≡ i) ⊎ (n ≡ j)) (sym em) (which_min i j) in
-    let e : g * 2 ^ m ≡ gcd_of a b = ap (λ t. t * 2 ^ m) eg ∙ gcd_by_twos a b i j m ta.2 ta.1 tb.2 case (omega arith) (omega arith) in
+    let le_i : m ≤ i = omega arith in
+    let halves : gcd_of (a / 2 ^ m) (b / 2 ^ j) ≡ gcd_of a (b / 2 ^ j) = gcd_halves a (b / 2 ^ j) tb.1 m (λ k l. ta.2 k (omega arith)) in
+    let e : g * 2 ^ m ≡ gcd_of a b = ap (λ t. t * 2 ^ m) (eg ∙ sym halves) ∙ gcd_by_twos a b i j m ta.2 ta.1 tb.2 case le_i (omega arith) in
     let small : gcd_of a b < 2 ^ 64 = omega (arith, gcd_le a b (omega arith)) in
     ap (λ t. t % 2 ^ 64) e ∙ mod-eq_of_lt small

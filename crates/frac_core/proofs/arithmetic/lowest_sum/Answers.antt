@@ -1,11 +1,20 @@
-use Rattle.std.proofs.Common.{Some, rules, FitsSigned}
+use Rattle.std.proofs.Common.{Some, rules, FitsSigned, refl, sym}
+use Rattle.std.proofs.Math.Nat.{dvd_trans}
 use Rattle.std.specs.Int.{w128}
 use Rattle.std.proofs.lemmas.Int.{to_z-of_z}
 use Rattle.rational.specs.Rational.{◌+ℚ◌}
 use Rattle.frac_core.specs.Parts.{PartsOf}
-use Rattle.frac_core.proofs.Held.{PartsOf-cross}
+use Rattle.frac_core.proofs.Held.{PartsOf-cross, divides_left, divides_right}
 use Rattle.frac_core.proofs.arithmetic.lowest_sum.Goals as goal
 use Rattle.frac_core.proofs.arithmetic.lowest_sum.Goals.{After-checked_mul-den}
+
+pub quotient-num-requires-clause-divides : goal.quotient-num-requires-clause-divides
+quotient-num-requires-clause-divides c = divides_left c.gcd-still_shared.result c.unsigned_abs.result c.args.shared _ c.gcd-still_shared.ensures.value c.unsigned_abs.ensures.value
+
+pub size_quotient-requires-clause-divides : goal.size_quotient-requires-clause-divides
+size_quotient-requires-clause-divides c =
+    let shared = divides_right c.gcd-still_shared.result c.unsigned_abs.result c.args.shared c.args.shared c.gcd-still_shared.ensures.value refl in
+    dvd_trans c.gcd-still_shared.result shared (divides_right c.args.shared c.args.p.den c.args.q.den c.bottom.result c.requires.shared (sym c.bottom.ensures.value))
 
 parts : (c : After-checked_mul-den) → PartsOf (c.args.p +ℚ c.args.q) (Some c.quotient-num.result) c.checked_mul-den.result
 parts c =

@@ -10,10 +10,13 @@ returns-then-a-eq0 c = sym (gcd-zero c.args.b) ∙ gcd_comm c.args.b 0 ∙ ap (�
 pub returns-then-b-eq0 : goal.returns-then-b-eq0
 returns-then-b-eq0 c = sym (gcd-zero c.args.a) ∙ ap (gcd_of c.args.a) (sym c.if-b-eq0.true)
 
-pub odd_gcd-requires : goal.odd_gcd-requires
-odd_gcd-requires c = let t = bit_at-trailing_zeros w64 c.args.b (omega arith) (omega (arith, c.ranges.b.fits)) in t.1
+pub odd_gcd-requires-clause-left : goal.odd_gcd-requires-clause-left
+odd_gcd-requires-clause-left c = let t = bit_at-trailing_zeros w64 c.args.a (omega arith) (omega (arith, c.ranges.a.fits)) in t.1
+
+pub odd_gcd-requires-clause-right : goal.odd_gcd-requires-clause-right
+odd_gcd-requires-clause-right c = let t = bit_at-trailing_zeros w64 c.args.b (omega arith) (omega (arith, c.ranges.b.fits)) in t.1
 
 pub returns : goal.returns
 returns c =
-    gcd_shifted c.args.a c.args.b c.min-twos.result c.odd_gcd.result c.if-a-eq0.false c.if-b-eq0.false (omega (arith, c.ranges.a.fits)) (omega (arith, c.ranges.b.fits))
+    gcd_shifted w64 c.args.a c.args.b c.min-twos.result c.odd_gcd.result c.if-a-eq0.false c.if-b-eq0.false (omega (arith, c.ranges.a.fits)) (omega (arith, c.ranges.b.fits))
     c.min-twos.ensures c.odd_gcd.ensures
