@@ -1,5 +1,5 @@
 -- How many stationary points there are with different values.
-use Rattle.std.proofs.Common.{◌≡◌, ◌≢◌, refl, ap, subst, ℕ, suc, ◌<◌, ◌≤◌, ◌⊎◌, inl, inr, List, [], ◌∷◌, length, map, arith}
+use Rattle.std.proofs.Common.{◌≡◌, ◌≢◌, refl, ◌∙◌, ap, subst, ℕ, suc, ◌<◌, ◌≤◌, ◌⊎◌, inl, inr, List, [], ◌∷◌, length, map, arith}
 use Rattle.std.specs.Prelude.{◌^◌, Contains, All}
 use Rattle.std.specs.List.{AllPairs, AllByRecursion}
 use Rattle.std.proofs.lemmas.List.Elements.{All-contains, All-from_get_or, All-head, All-tail}
@@ -10,10 +10,10 @@ use Rattle.rational.specs.Vectors.{IsSymmetric}
 use Rattle.linear_simplex.proofs.Sets.{few, code, code_below, same_sets, contains_or, AreDistinct, AreBelow}
 use Rattle.equational.specs.Form.{Form}
 use Rattle.equational.specs.Solutions.{IsForm, IsSolution}
-use Rattle.quad_solve.specs.Problems.{support}
-use Rattle.quad_solve.specs.Steps.{IsStationary, HaveSameSupport, height}
+use Rattle.face_descent.specs.Small.{support, IsStationary}
+use Rattle.face_descent.proofs.Supports.{off_support, support_below}
+use Rattle.quad_solve.specs.Steps.{HaveSameSupport, height}
 use Rattle.quad_solve.proofs.Doubled.{off_places}
-use Rattle.quad_solve.proofs.Every.{off_support, within}
 use Rattle.quad_solve.proofs.Stationary.{lesser_differs}
 
 -- where the support of z is within that of w, z is 0 where w is
@@ -22,7 +22,7 @@ zero_there z w j more e = by (contains_or (support z) j)
   where
     by : Contains (support z) j ⊎ ¬ (Contains (support z) j) → entry z j ≡ zero_ℚ
     by (inl c) = absurd (All-contains (λ m. m ≢ j) (support w) j (off_places 0 w j j (omega arith) e) (more c) refl)
-    by (inr n) = off_support 0 z j j (omega arith) (All-from_get_or (λ m. m ≢ j) (support z) j (λ i l s. n (i, l, s)))
+    by (inr n) = off_support z j (All-from_get_or (λ m. m ≢ j) (support z) j (λ i l s. n (i, l, s)))
 
 length-numbers : (g : List ℚ → ℕ) (zs : List (List ℚ)) → length (map g zs) ≡ length zs
 length-numbers g [] = refl
@@ -33,7 +33,7 @@ module _ (n : ℕ) (f : Form) (form : IsForm n f) (sy : IsSymmetric n f.quadrati
   number z = code n (support z)
 
   inside : (z : List ℚ) → IsSolution f z → All (λ j. j < n) (support z)
-  inside z s i d l = omega (arith, within 0 z i d l, s.width, form.cost)
+  inside z s = support_below n z (s.width ∙ form.cost)
 
   same_numbers : (z w : List ℚ) → IsSolution f z → IsSolution f w → number z ≡ number w → HaveSameSupport z w
   same_numbers z w s t e j =
@@ -44,8 +44,8 @@ module _ (n : ℕ) (f : Form) (form : IsForm n f) (sy : IsSymmetric n f.quadrati
       → All (λ w. height f z <ℚ height f w) zs → AllByRecursion (λ x. x ≢ number z) (map number zs)
   avoids z s st [] h k l = tt
   avoids z s st (w ∷ zs) h k l = (
-    (λ e. let t = All-head (IsSolution f) w zs h in let u = All-head (IsStationary f) w zs k in
-        lesser_differs n f w z u.multipliers st.multipliers form sy t s u.stationary st.stationary (All-head (λ w. height f z <ℚ height f w) w zs l) (same_numbers w z t s e)),
+    (λ e. let t = All-head (IsSolution f) w zs h in
+        lesser_differs n f w z form sy t s (All-head (IsStationary f) w zs k) st (All-head (λ w. height f z <ℚ height f w) w zs l) (same_numbers w z t s e)),
     avoids z s st zs (All-tail (IsSolution f) w zs h) (All-tail (IsStationary f) w zs k) (All-tail (λ w. height f z <ℚ height f w) w zs l),
   )
 
