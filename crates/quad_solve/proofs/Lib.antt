@@ -1,4 +1,5 @@
 pub mod Lists
+pub mod Decided
 pub mod Directions
 pub mod Doubled
 pub mod Descents
@@ -9,4 +10,6 @@ pub mod Counts
 pub mod Lengths
 pub mod Every
 pub mod Few
+pub mod WalkSteps
+pub mod WalkLengths
 pub mod Worked

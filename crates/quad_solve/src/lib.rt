@@ -1,9 +1,10 @@
-//! Ray problems, price problems and price steps on a form, and their laws. Each law is the contract of a function that
+//! Ray problems, price problems, price steps and walks on a form, and their laws. Each law is the contract of a function that
 //! does nothing.
 #![tactic(auto)]
 
 mod prices;
 mod rays;
+mod walks;
 
 pub use prices::{
     price_problem_leads_down, price_step_falls, refuted_price_is_optimal,
@@ -12,3 +13,4 @@ pub use prices::{
 pub use rays::{
     chains_of_a_form_are_short, feasible_problem_tells_solutions, ray_problem_tells_rays,
 };
+pub use walks::{walk_values_fall, walks_are_short, walks_end, walks_go_on};

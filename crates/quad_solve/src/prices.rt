@@ -66,8 +66,7 @@ pub fn supports_of_stationary_points_differ()
         IsStationary f z → IsStationary f w → height f w <ℚ height f z → ¬ (HaveSameSupport z w) }
 {}
 
-/// Stationary solutions whose values rise along a list are at most as many as there are sets of columns. So a walk, the newest
-/// point first, whose value falls from each stationary point to the next has fewer price steps than that.
+/// Stationary solutions whose values rise along a list are at most as many as there are sets of columns.
 pub fn stationary_points_are_few()
     ensures few { (n : ℕ) (f : Form) (points : List (List ℚ)) → IsForm n f → IsSymmetric n f.quadratic → All (IsSolution f) points →
         All (IsStationary f) points → AllPairs (λ z w. height f z <ℚ height f w) points → length points ≤ 2 ^ n }
