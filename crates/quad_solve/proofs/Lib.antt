@@ -12,4 +12,7 @@ pub mod Every
 pub mod Few
 pub mod WalkSteps
 pub mod WalkLengths
+pub mod RegionAnswers
+pub mod SomeAnswer
+pub mod RegionRays
 pub mod Worked

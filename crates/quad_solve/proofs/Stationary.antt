@@ -42,11 +42,11 @@ no_slope n f z d form has equal off =
     by j false e = ap (λ t. (entry (slope f z) j +ℚ neg_ℚ one_ℚ *ℚ t) *ℚ entry d j) (has.same j (differ_of_same_fields (entry z j) zero_ℚ e))
         ∙ ring rationals (entry (slope f z) j ∷ entry d j ∷ []) (λ g d. (g ⊕ minus (lit 1) ⊗ g) ⊗ d ≐ lit 0) refl
 
-less_itself : (r : List ℚ) → add_each r (scale (neg_ℚ one_ℚ) r) ≡ zeros (length r)
+pub less_itself : (r : List ℚ) → add_each r (scale (neg_ℚ one_ℚ) r) ≡ zeros (length r)
 less_itself [] = refl
 less_itself (x ∷ r) = ap (λ t. t ∷ add_each r (scale (neg_ℚ one_ℚ) r)) (ring rationals (x ∷ []) (λ x. x ⊕ minus (lit 1) ⊗ x ≐ lit 0) refl) ∙ ap (λ l. zero_ℚ ∷ l) (less_itself r)
 
-there : (z w : List ℚ) → length z ≡ length w → add_each z (scale one_ℚ (add_each w (scale (neg_ℚ one_ℚ) z))) ≡ w
+pub there : (z w : List ℚ) → length z ≡ length w → add_each z (scale one_ℚ (add_each w (scale (neg_ℚ one_ℚ) z))) ≡ w
 there [] [] e = refl
 there [] (y ∷ w) e = absurd (omega arith)
 there (x ∷ z) [] e = absurd (omega arith)

@@ -1,16 +1,19 @@
-//! Ray problems, price problems, price steps and walks on a form, and their laws. Each law is the contract of a function that
+//! Ray problems, price problems, price steps and walks on a form, the answer of a region, and their laws. Each law is the contract of a function that
 //! does nothing.
 #![tactic(auto)]
 
+mod answers;
 mod prices;
 mod rays;
 mod walks;
 
+pub use answers::{answers_are_true, answers_exclude_each_other, regions_have_answers};
 pub use prices::{
     price_problem_leads_down, price_step_falls, refuted_price_is_optimal,
     stationary_points_are_few, supports_of_stationary_points_differ,
 };
 pub use rays::{
     chains_of_a_form_are_short, feasible_problem_tells_solutions, ray_problem_tells_rays,
+    rays_depend_on_which_bounds_exist,
 };
 pub use walks::{walk_values_fall, walks_are_short, walks_end, walks_go_on};

@@ -1,0 +1,53 @@
+//! The answer of a region by its three cases.
+
+ghost use Rattle.std.specs.Prelude.{◌≡◌, ◌≤◌, ℕ, List, length};
+ghost use Rattle.rational.specs.Rational.{ℚ};
+ghost use Rattle.rational.specs.Order.{◌≤ℚ◌};
+ghost use Rattle.rational.specs.Vectors.{IsSemidefinite};
+ghost use Rattle.program_law.specs.Region.{Region, IsCrossedRegion};
+ghost use Rattle.program_law.specs.Program.{Program, IsProgram};
+ghost use Rattle.program_law.specs.Columns.{IsRelaxedPoint, value};
+ghost use Rattle.certificate_law.specs.Leaf.{IsGoodBound, IsGoodFarkas};
+ghost use Rattle.equational.specs.Solutions.{IsRegionRay};
+ghost use Rattle.quad_solve.specs.Answer.{Answer, IsAnswer, IsBest, IsEmpty, IsFalling, IsFound};
+
+/// What a region's answer says is true of the region: its multipliers are a good FARKAS leaf; or its point is one of the
+/// region, and its direction one along which the values fall without end; or its point is one of the region with the least
+/// value, and its multipliers are a good BOUND leaf there.
+pub fn answers_are_true()
+    ensures empty { (p : Program) (region : Region) (budget : ℕ) (y : List ℚ) → IsProgram p → length region ≡ length p.columns →
+        (IsCrossedRegion region → ⊥) → IsEmpty p region budget y → IsGoodFarkas p region y }
+    ensures found { (p : Program) (region : Region) (budget : ℕ) (x : List ℚ) → IsProgram p → length region ≡ length p.columns →
+        IsFound p region budget x → IsRelaxedPoint p region x }
+    ensures ray { (p : Program) (region : Region) (budget : ℕ) (x d : List ℚ) → IsProgram p → length region ≡ length p.columns →
+        IsFalling p region budget x d → IsRegionRay p region d }
+    ensures point { (p : Program) (region : Region) (budget : ℕ) (x : List ℚ) (least : ℚ) (y : List ℚ) → IsProgram p →
+        length region ≡ length p.columns → IsSemidefinite (length p.columns) p.pairs → IsBest p region budget x least y →
+        IsRelaxedPoint p region x }
+    ensures bound { (p : Program) (region : Region) (budget : ℕ) (x : List ℚ) (least : ℚ) (y : List ℚ) → IsProgram p →
+        length region ≡ length p.columns → IsSemidefinite (length p.columns) p.pairs → IsBest p region budget x least y →
+        (IsCrossedRegion region → ⊥) → IsGoodBound p least region x y }
+    ensures least { (p : Program) (region : Region) (budget : ℕ) (x : List ℚ) (least : ℚ) (y : List ℚ) → IsProgram p →
+        length region ≡ length p.columns → IsSemidefinite (length p.columns) p.pairs → IsBest p region budget x least y →
+        (w : List ℚ) → IsRelaxedPoint p region w → least ≤ℚ value p w }
+{}
+
+/// The cases of a region's answer exclude each other, whatever the budgets.
+pub fn answers_exclude_each_other()
+    ensures found { (p : Program) (region : Region) (one other : ℕ) (x y : List ℚ) → IsProgram p → length region ≡ length p.columns →
+        IsFound p region one x → IsEmpty p region other y → ⊥ }
+    ensures ray { (p : Program) (region : Region) (one other : ℕ) (x d y : List ℚ) → IsProgram p → length region ≡ length p.columns →
+        IsFalling p region one x d → IsEmpty p region other y → ⊥ }
+    ensures best { (p : Program) (region : Region) (one other : ℕ) (x : List ℚ) (least : ℚ) (y u : List ℚ) → IsProgram p →
+        length region ≡ length p.columns → IsBest p region one x least y → IsEmpty p region other u → ⊥ }
+    ensures both { (p : Program) (region : Region) (one other : ℕ) (x : List ℚ) (least : ℚ) (y w d : List ℚ) → IsProgram p →
+        length region ≡ length p.columns → IsBest p region one x least y → IsFalling p region other w d → ⊥ }
+{}
+
+/// Each region has an answer within some budget, and a larger budget keeps it.
+pub fn regions_have_answers()
+    ensures some { (p : Program) (region : Region) → IsProgram p → length region ≡ length p.columns →
+        IsSemidefinite (length p.columns) p.pairs → (budget : ℕ) × (answer : Answer) × IsAnswer p region budget answer }
+    ensures more { (p : Program) (region : Region) (budget larger : ℕ) (answer : Answer) → budget ≤ larger →
+        IsAnswer p region budget answer → IsAnswer p region larger answer }
+{}
