@@ -15,4 +15,6 @@ pub mod WalkLengths
 pub mod RegionAnswers
 pub mod SomeAnswer
 pub mod RegionRays
+pub mod SpentSites
+pub mod PriceLength
 pub mod Worked

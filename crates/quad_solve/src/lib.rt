@@ -5,15 +5,17 @@
 mod answers;
 mod prices;
 mod rays;
+mod sites;
 mod walks;
 
 pub use answers::{answers_are_true, answers_exclude_each_other, regions_have_answers};
 pub use prices::{
-    price_problem_leads_down, price_step_falls, refuted_price_is_optimal,
+    price_length_is_computed, price_problem_leads_down, price_step_falls, refuted_price_is_optimal,
     stationary_points_are_few, supports_of_stationary_points_differ,
 };
 pub use rays::{
     chains_of_a_form_are_short, feasible_problem_tells_solutions, ray_problem_tells_rays,
     rays_depend_on_which_bounds_exist,
 };
+pub use sites::large_budgets_are_enough;
 pub use walks::{walk_values_fall, walks_are_short, walks_end, walks_go_on};

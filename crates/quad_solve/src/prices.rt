@@ -1,6 +1,6 @@
 //! The price problem at a point of a form.
 
-ghost use Rattle.std.specs.Prelude.{◌≤◌, ◌^◌, All, AllPairs, ◌≡◌, ℕ, List, [], ◌∷◌, length};
+ghost use Rattle.std.specs.Prelude.{◌≤◌, ◌^◌, ◌↔◌, All, AllPairs, Some, ◌≡◌, ℕ, List, [], ◌∷◌, length};
 ghost use Rattle.rational.specs.Rational.{ℚ, zero_ℚ, one_ℚ};
 ghost use Rattle.rational.specs.Order.{◌<ℚ◌};
 ghost use Rattle.rational.specs.Sums.{entry};
@@ -12,6 +12,7 @@ ghost use Rattle.equational.specs.Optimal.{IsOptimality};
 ghost use Rattle.quad_solve.specs.Problems.{price_problem, direction, last_number, price_multipliers, parabola};
 ghost use Rattle.face_descent.specs.Small.{HasMultipliers, IsStationary};
 ghost use Rattle.face_descent.specs.Step.{moved};
+ghost use Rattle.quad_solve.specs.Operations.{price_length};
 ghost use Rattle.quad_solve.specs.Steps.{LeadsDown, IsPriceStep, HaveSameSupport, curvature, height};
 
 /// A solution of the price problem at a point gives a direction that leads down from it, and each such direction comes
@@ -41,6 +42,12 @@ pub fn price_step_falls()
     ensures one { (n : ℕ) (f : Form) (z d : List ℚ) (s t : ℚ) → IsForm n f → IsSemidefinite n f.quadratic → LeadsDown f z d →
         IsPriceStep f z d s → IsPriceStep f z d t → s ≡ t }
     ensures worked { LeadsDown parabola (zero_ℚ ∷ []) (one_ℚ ∷ []) × IsPriceStep parabola (zero_ℚ ∷ []) (one_ℚ ∷ []) one_ℚ }
+{}
+
+/// A price step goes as far as the calculation of its length says.
+pub fn price_length_is_computed()
+    ensures { (n : ℕ) (f : Form) (z d : List ℚ) (s : ℚ) → IsForm n f → IsSemidefinite n f.quadratic → IsSolution f z → LeadsDown f z d →
+        IsPriceStep f z d s ↔ (price_length (curvature f d) z d ≡ Some s) }
 {}
 
 /// A Farkas vector of the price problem has a last entry below 0, and gives the multipliers that show the point optimal.
