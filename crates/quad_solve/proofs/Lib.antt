@@ -17,4 +17,5 @@ pub mod SomeAnswer
 pub mod RegionRays
 pub mod SpentSites
 pub mod PriceLength
+pub mod OneAnswer
 pub mod Worked

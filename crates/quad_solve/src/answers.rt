@@ -44,10 +44,14 @@ pub fn answers_exclude_each_other()
         length region ≡ length p.columns → IsBest p region one x least y → IsFalling p region other w d → ⊥ }
 {}
 
-/// Each region has an answer within some budget, and a larger budget keeps it.
+/// Each region has an answer within some budget, and only one; a larger budget keeps it.
 pub fn regions_have_answers()
     ensures some { (p : Program) (region : Region) → IsProgram p → length region ≡ length p.columns →
         IsSemidefinite (length p.columns) p.pairs → (budget : ℕ) × (answer : Answer) × IsAnswer p region budget answer }
+    ensures one { (p : Program) (region : Region) (a b : ℕ) (one other : Answer) → IsProgram p → length region ≡ length p.columns →
+        IsSemidefinite (length p.columns) p.pairs → IsAnswer p region a one → IsAnswer p region b other → one ≡ other }
+    ensures found { (p : Program) (region : Region) (a b : ℕ) (x y : List ℚ) → IsProgram p → length region ≡ length p.columns →
+        IsFound p region a x → IsFound p region b y → x ≡ y }
     ensures more { (p : Program) (region : Region) (budget larger : ℕ) (answer : Answer) → budget ≤ larger →
         IsAnswer p region budget answer → IsAnswer p region larger answer }
 {}
