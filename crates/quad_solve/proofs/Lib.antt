@@ -18,4 +18,5 @@ pub mod RegionRays
 pub mod SpentSites
 pub mod PriceLength
 pub mod OneAnswer
+pub mod ValueOps
 pub mod Worked
