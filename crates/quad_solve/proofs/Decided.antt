@@ -8,7 +8,7 @@ use Rattle.rational.specs.Sums.{entry}
 use Rattle.rational.proofs.Order.{le_or_lt}
 use Rattle.rational.proofs.OrderLaws.{not-le_of_lt}
 use Rattle.linear_basis.specs.Problem as linear
-use Rattle.linear_basis.specs.Basis.{Tableau, IsBasis, IsStanding, IsZeroCost, IsFinal, point, price, unit_basis, solution_of, farkas_of}
+use Rattle.linear_basis.specs.Basis.{Tableau, IsZeroCost, IsFinal, point, price, unit_basis, solution_of, farkas_of}
 use Rattle.linear_basis.proofs.Verdicts.{gives_solution, gives_farkas, not_both}
 use Rattle.linear_simplex.specs.Chain.{IsChain, IsStrictStep, EndsWithin}
 use Rattle.linear_simplex.proofs.Steps.{last_basis, last_standing, short, goes_on}

@@ -90,12 +90,12 @@ among_all (suc n) j l = by (same_or_other n j) (λ d. among_all n j (grind arith
     by (inl e) later = (0, omega arith, e)
     by (inr d) later = let c = later d in let b = c.1 in (suc c.0, omega arith, c.2)
 
-past_the_end : (u : List ℚ) (j : ℕ) → length u ≤ j → entry u j ≡ zero_ℚ
+pub past_the_end : (u : List ℚ) (j : ℕ) → length u ≤ j → entry u j ≡ zero_ℚ
 past_the_end [] j h = refl
 past_the_end (x ∷ u) zero h = absurd (omega arith)
 past_the_end (x ∷ u) (suc j) h = past_the_end u j (omega arith)
 
-below_or : (j n : ℕ) → (j < n) ⊎ (n ≤ j)
+pub below_or : (j n : ℕ) → (j < n) ⊎ (n ≤ j)
 below_or j n = by (nat_lt j n) refl
   where
     by : (t : Bool) → nat_lt j n ≡ t → (j < n) ⊎ (n ≤ j)

@@ -19,4 +19,8 @@ pub mod SpentSites
 pub mod PriceLength
 pub mod OneAnswer
 pub mod ValueOps
+pub mod Tested
+mod WorkedValley
+mod WorkedHill
+mod WorkedSlope
 pub mod Worked

@@ -1,7 +1,6 @@
 -- A region has one answer.
-use Rattle.std.proofs.Common.{◌≡◌, ◌≢◌, refl, sym, ◌∙◌, ap, subst, ℕ, suc, ◌+◌, ◌<◌, ◌≤◌, ◌⊎◌, inl, inr, ⊎_elim, List, [], ◌∷◌, length, arith}
-use Rattle.rational.specs.Rational.{ℚ, zero_ℚ, neg_ℚ}
-use Rattle.rational.specs.Order.{◌<ℚ◌}
+use Rattle.std.proofs.Common.{◌≡◌, refl, sym, ◌∙◌, ap, subst, ℕ, ◌<◌, ◌⊎◌, inl, inr, List, [], ◌∷◌, length, arith}
+use Rattle.rational.specs.Rational.{ℚ, neg_ℚ}
 use Rattle.rational.specs.Vectors.{IsSemidefinite}
 use Rattle.program_law.specs.Region.{Region}
 use Rattle.program_law.specs.Program.{Program, IsProgram}
@@ -19,7 +18,7 @@ use Rattle.face_descent.proofs.Ends.{stationary_has_no_step}
 use Rattle.face_descent.proofs.OneStep.{one_shrink}
 use Rattle.quad_solve.specs.Problems.{feasible_problem, ray_problem, price_problem, price_multipliers, direction}
 use Rattle.quad_solve.specs.Steps.{IsPriceStep}
-use Rattle.quad_solve.specs.Walk.{IsSolvedWithin, IsRefutedWithin, IsSolved, IsRefuted, Way, Start, Shrink, Price, Visit, IsPriced, GoesOn, IsWalkFrom}
+use Rattle.quad_solve.specs.Walk.{IsSolvedWithin, IsRefutedWithin, IsRefuted, Way, Start, Shrink, Price, Visit, IsPriced, GoesOn, IsWalkFrom}
 use Rattle.quad_solve.specs.Answer.{Answer, Empty, Ray, Best, IsFound, IsEmpty, IsFalling, IsBest, IsAnswer}
 use Rattle.quad_solve.proofs.Decided.{not_both_ends}
 use Rattle.quad_solve.proofs.Descents.{prices_form_a_problem}

@@ -1,19 +1,19 @@
 -- How far a price step goes, as it is computed.
-use Rattle.std.proofs.Common.{◌≡◌, ◌≢◌, refl, sym, ◌∙◌, ap, subst, ℕ, ◌⊎◌, inl, inr, ⊎_elim, Bool, true, false, List, [], ◌∷◌, length, if◌then◌else◌}
+use Rattle.std.proofs.Common.{◌≡◌, ◌≢◌, refl, sym, ◌∙◌, ap, subst, ℕ, inl, inr, ⊎_elim, Bool, true, false, List, [], ◌∷◌, length, if◌then◌else◌}
 use Rattle.std.specs.Prelude.{Option, Some, None, ◌↔◌}
-use Rattle.algebra.proofs.Polynomial.{minus, ◌⊕◌, ◌⊗◌, ◌≐◌, ◌≼◌, ◌≺◌, lit}
+use Rattle.algebra.proofs.Polynomial.{◌⊗◌, ◌≐◌, ◌≼◌, ◌≺◌, lit}
 use Rattle.algebra.proofs.Certificate.{prove, given, scaled, square, weight, ◌⊞◌, ◌⊠◌, ◌⇐◌}
 use Rattle.rational.specs.Rational.{ℚ, zero_ℚ, one_ℚ, ◌+ℚ◌, ◌*ℚ◌, ◌/ℚ◌}
 use Rattle.rational.specs.Order.{◌≤ℚ◌, ◌<ℚ◌, same_fields, same_fields_lem, differ_of_same_fields}
 use Rattle.rational.specs.Sums.{entry}
 use Rattle.rational.specs.Vectors.{IsSemidefinite}
-use Rattle.rational.proofs.Order.{ordered_rationals, div-mul_cancel, lt_irrefl, lt_le, le_refl}
+use Rattle.rational.proofs.Order.{ordered_rationals, div-mul_cancel, lt_irrefl, lt_le}
 use Rattle.rational.proofs.OrderLaws.{le_trans, le_of_eq}
 use Rattle.program_law.specs.Tests.{is_le}
 use Rattle.program_law.proofs.Numbers.{le_tested, lt_tested}
 use Rattle.equational.specs.Form.{Form}
 use Rattle.equational.specs.Solutions.{IsForm, IsSolution}
-use Rattle.face_descent.specs.Step.{IsWithin, IsNearest, moved}
+use Rattle.face_descent.specs.Step.{IsWithin, IsNearest}
 use Rattle.face_descent.specs.Operations.{nearer, nearest_zero}
 use Rattle.face_descent.proofs.Directions.{entry-moved}
 use Rattle.face_descent.proofs.Moves.{zero_there, entry_nonneg as moved_nonneg, nearest_nonneg}

@@ -1,14 +1,11 @@
 -- What a region's answer says of the region.
-use Rattle.std.proofs.Common.{◌≡◌, ◌≢◌, refl, sym, ◌∙◌, ap, subst, ℕ, suc, ◌<◌, ◌≤◌, ◌⊎◌, inl, inr, ⊎_elim, Bool, true, false, List, [], ◌∷◌, length, map, arith}
-use Rattle.std.specs.Prelude.{All}
-use Rattle.algebra.proofs.Polynomial.{minus, ◌⊕◌, ◌⊝◌, ◌⊗◌, ◌≐◌, ◌≼◌, lit}
+use Rattle.std.proofs.Common.{◌≡◌, refl, sym, ◌∙◌, ap, subst, ℕ, Bool, true, false, List, [], ◌∷◌, length}
+use Rattle.algebra.proofs.Polynomial.{minus, ◌⊕◌, ◌⊝◌, ◌⊗◌, ◌≼◌, lit}
 use Rattle.algebra.proofs.Certificate.{prove, given, scaled, ◌⊞◌, ◌⊠◌, ◌⇐◌}
-use Rattle.algebra.proofs.Solver.{ring}
 use Rattle.rational.specs.Rational.{ℚ, zero_ℚ, one_ℚ, neg_ℚ, ◌+ℚ◌, ◌*ℚ◌}
-use Rattle.rational.specs.Order.{◌≤ℚ◌, ◌<ℚ◌, same_fields, same_fields_lem, differ_of_same_fields}
+use Rattle.rational.specs.Order.{◌≤ℚ◌, same_fields, same_fields_lem, differ_of_same_fields}
 use Rattle.rational.specs.Sums.{entry, half}
-use Rattle.rational.specs.Vectors.{dot, add_each, scale, zeros, rows_dot, combine, quadratic, IsSemidefinite}
-use Rattle.rational.proofs.Field.{rationals}
+use Rattle.rational.specs.Vectors.{dot, add_each, scale, zeros, rows_dot, combine, IsSemidefinite}
 use Rattle.rational.proofs.Order.{ordered_rationals}
 use Rattle.rational.proofs.Vectors.{length-add_each, length-scale, length-combine, entry-add_each, entry-scale, dot-zeros_right, dot-add_scale_left, transpose}
 use Rattle.rational.proofs.Forms.{expansion}
@@ -30,7 +27,6 @@ use Rattle.equational.proofs.Shapes.{shape, semidefinite}
 use Rattle.face_descent.proofs.Directions.{half_nonneg}
 use Rattle.quad_solve.specs.Problems.{feasible_problem, ray_problem, price_problem, price_multipliers, slope}
 use Rattle.quad_solve.specs.Steps.{height, curvature}
-use Rattle.quad_solve.specs.Walk.{IsSolvedWithin, IsRefutedWithin}
 use Rattle.quad_solve.specs.Answer.{IsFound, IsEmpty, IsFalling, IsBest}
 use Rattle.quad_solve.proofs.Decided.{solved_is_solution, refuted_is_farkas, not_both_ends}
 use Rattle.quad_solve.proofs.Descents.{prices_form_a_problem, length-slope, entry_nonneg}

@@ -1,11 +1,11 @@
 -- Rays of regions with the same bounds, whatever their numbers.
 use Rattle.std.proofs.Common.{◌≡◌, refl, ℕ, zero, suc, List, [], ◌∷◌, length}
-use Rattle.std.specs.Prelude.{ℤ, IsSome, Option, Some, None}
-use Rattle.rational.specs.Rational.{ℚ, whole}
+use Rattle.std.specs.Prelude.{IsSome, Option, Some, None}
+use Rattle.rational.specs.Rational.{ℚ}
 use Rattle.program_law.specs.Region.{Region, cut_high, cut_low, smaller, larger}
 use Rattle.program_law.specs.Program.{Program, IsProgram}
 use Rattle.equational.specs.Form.{form_of, direction_of}
-use Rattle.equational.specs.Solutions.{IsFormRay, IsRegionRay, HasItsBounds}
+use Rattle.equational.specs.Solutions.{IsFormRay, HasItsBounds}
 use Rattle.equational.proofs.Rays.{ray_back, ray_of, ray_from, fewer_bounds}
 
 pub no_ray_within : (p : Program) (region other : Region) → IsProgram p → length region ≡ length p.columns → length other ≡ length p.columns

@@ -1,6 +1,5 @@
 -- Each region has an answer, and a larger budget keeps it.
-use Rattle.std.proofs.Common.{◌≡◌, refl, ℕ, ◌+◌, ◌≤◌, ◌⊎◌, inl, inr, ⊎_elim, List, [], ◌∷◌, length, map, arith}
-use Rattle.std.specs.Prelude.{All}
+use Rattle.std.proofs.Common.{◌≡◌, refl, ℕ, ◌+◌, ◌≤◌, inl, inr, ⊎_elim, List, [], ◌∷◌, length, map, arith}
 use Rattle.std.proofs.lemmas.List.Elements.{All-nil, All-cons, All-weaker}
 use Rattle.rational.specs.Rational.{ℚ, neg_ℚ}
 use Rattle.rational.specs.Vectors.{IsSemidefinite}
@@ -9,12 +8,12 @@ use Rattle.program_law.specs.Program.{Program, IsProgram}
 use Rattle.program_law.specs.Columns.{value}
 use Rattle.linear_basis.specs.Problem as linear
 use Rattle.equational.specs.Form.{Form, width, form_of, point_of, direction_of, multipliers_of}
-use Rattle.equational.specs.Solutions.{IsForm, IsSolution, IsFormRay}
+use Rattle.equational.specs.Solutions.{IsForm}
 use Rattle.equational.proofs.Shapes.{shape, semidefinite}
 use Rattle.face_descent.specs.Small.{IsStationary}
 use Rattle.quad_solve.specs.Problems.{feasible_problem, ray_problem, price_problem, price_multipliers}
 use Rattle.quad_solve.specs.Walk.{IsSolvedWithin, IsRefutedWithin, IsDecidedWithin, Visit, IsWalkFrom, HasPricesWithin, price_steps}
-use Rattle.quad_solve.specs.Answer.{Answer, Empty, Ray, Best, IsFound, IsEmpty, IsFalling, IsBest, IsAnswer}
+use Rattle.quad_solve.specs.Answer.{Answer, Empty, Ray, Best, IsFound, IsAnswer}
 use Rattle.quad_solve.proofs.Decided.{some_end, refuted_is_farkas}
 use Rattle.quad_solve.proofs.Descents.{prices_form_a_problem}
 use Rattle.quad_solve.proofs.Directions.{feasible_is_a_problem, rays_form_a_problem, refuted_has_none}

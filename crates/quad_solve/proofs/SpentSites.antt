@@ -1,17 +1,15 @@
 -- Where a budget is used up, it is small; and how far a price step goes.
-use Rattle.std.proofs.Common.{◌≡◌, ◌≢◌, refl, sym, ◌∙◌, ap, subst, ℕ, ◌+◌, ◌≤◌, ◌⊎◌, inl, inr, ⊎_elim, Bool, true, false, List, length, if◌then◌else◌, arith}
-use Rattle.std.specs.Prelude.{◌^◌, Option, Some, None}
+use Rattle.std.proofs.Common.{◌≡◌, ℕ, ◌+◌, ◌≤◌, List, length, arith}
+use Rattle.std.specs.Prelude.{◌^◌}
 use Rattle.std.proofs.Math.Nat.{pow-le-pow_right}
-use Rattle.rational.specs.Rational.{ℚ, zero_ℚ, one_ℚ, ◌*ℚ◌, ◌/ℚ◌}
-use Rattle.rational.specs.Order.{◌≤ℚ◌, ◌<ℚ◌, same_fields, same_fields_lem, differ_of_same_fields}
-use Rattle.rational.specs.Sums.{entry}
+use Rattle.rational.specs.Rational.{ℚ}
 use Rattle.rational.specs.Vectors.{IsSemidefinite}
 use Rattle.program_law.specs.Region.{Region}
 use Rattle.program_law.specs.Program.{Program, IsProgram}
 use Rattle.equational.specs.Form.{Form, width, form_of}
 use Rattle.equational.specs.Solutions.{IsForm, IsSolution}
 use Rattle.equational.proofs.Shapes.{shape, semidefinite}
-use Rattle.quad_solve.specs.Walk.{IsOnWalk, IsSpentWalk}
+use Rattle.quad_solve.specs.Walk.{IsOnWalk}
 use Rattle.quad_solve.specs.Sites.{Site, AtForm, AtFeasible, AtRay, AtFace, AtPrice, IsReached, IsSpentAt}
 use Rattle.quad_solve.proofs.Counts.{feasible_spent, ray_spent, price_spent}
 use Rattle.quad_solve.proofs.WalkSteps.{start_solves, newest_solves}

@@ -1,5 +1,5 @@
 -- How long walks are.
-use Rattle.std.proofs.Common.{◌≡◌, refl, sym, ◌∙◌, ap, subst, ℕ, zero, suc, ◌+◌, ◌*◌, ◌<◌, ◌≤◌, ◌⊎◌, inl, inr, ⊎_elim, List, [], ◌∷◌, length, arith}
+use Rattle.std.proofs.Common.{◌≡◌, refl, sym, ◌∙◌, ap, subst, ℕ, zero, suc, ◌+◌, ◌*◌, ◌≤◌, inl, inr, ⊎_elim, List, [], ◌∷◌, length, arith}
 use Rattle.std.specs.Prelude.{◌^◌, All}
 use Rattle.std.specs.List.{AllPairs}
 use Rattle.std.proofs.lemmas.List.Elements.{All-nil, All-cons, All-head, All-tail}
@@ -13,7 +13,7 @@ use Rattle.equational.specs.Solutions.{IsForm, IsSolution, IsFormRay}
 use Rattle.face_descent.specs.Small.{IsStationary, support}
 use Rattle.face_descent.specs.Step.{IsShrinkStep, AreShrinkSteps, newest_point}
 use Rattle.face_descent.proofs.Ends.{few_steps}
-use Rattle.quad_solve.specs.Problems.{price_problem, direction, feasible_problem}
+use Rattle.quad_solve.specs.Problems.{price_problem, direction}
 use Rattle.quad_solve.specs.Steps.{height}
 use Rattle.quad_solve.specs.Walk.{Way, Start, Shrink, Price, Visit, IsPriced, IsSolved, IsRefuted, GoesOn, IsWalkFrom, IsSpentWalk, one_if_price, price_steps, more_if_shrink, last_shrinks}
 use Rattle.quad_solve.proofs.Decided.{some_end}

@@ -1,22 +1,21 @@
 -- Walks: what each step keeps, how they go on, and how the values fall.
-use Rattle.std.proofs.Common.{◌≡◌, ◌≢◌, refl, sym, ◌∙◌, ap, subst, ℕ, zero, suc, ◌+◌, ◌<◌, ◌≤◌, ◌⊎◌, inl, inr, ⊎_elim, List, [], ◌∷◌, ◌++◌, length, arith}
+use Rattle.std.proofs.Common.{refl, sym, subst, ℕ, ◌⊎◌, inl, inr, ⊎_elim, List, [], ◌∷◌, arith}
 use Rattle.std.specs.Prelude.{All}
 use Rattle.std.specs.List.{AllPairs}
-use Rattle.std.proofs.lemmas.List.Elements.{All-nil, All-cons, All-head, All-tail, All-weaker}
+use Rattle.std.proofs.lemmas.List.Elements.{All-nil, All-cons, All-weaker}
 use Rattle.std.proofs.lemmas.List.Kept.{AllPairs-cons}
-use Rattle.rational.specs.Rational.{ℚ, zero_ℚ}
+use Rattle.rational.specs.Rational.{ℚ}
 use Rattle.rational.specs.Order.{◌≤ℚ◌, ◌<ℚ◌}
 use Rattle.rational.specs.Vectors.{IsSemidefinite}
-use Rattle.rational.proofs.Order.{lt_le, le_refl}
+use Rattle.rational.proofs.Order.{lt_le}
 use Rattle.rational.proofs.OrderLaws.{le_trans, le-lt_trans}
-use Rattle.linear_basis.specs.Problem as linear
 use Rattle.equational.specs.Form.{Form}
 use Rattle.equational.specs.Solutions.{IsForm, IsSolution, IsFormRay}
 use Rattle.face_descent.specs.Small.{IsStationary}
 use Rattle.face_descent.specs.Step.{IsShrinkStep, AreShrinkSteps, newest_point}
 use Rattle.face_descent.proofs.Ends.{step_kept, stationary_has_no_step, step_or_stationary}
 use Rattle.quad_solve.specs.Problems.{feasible_problem, price_problem, direction}
-use Rattle.quad_solve.specs.Steps.{LeadsDown, IsPriceStep, HaveSameSupport, height}
+use Rattle.quad_solve.specs.Steps.{LeadsDown, HaveSameSupport, height}
 use Rattle.quad_solve.specs.Walk.{Way, Start, Shrink, Price, Visit, IsSolved, IsRefuted, IsPriced, GoesOn, IsLowest, IsWalkFrom, IsWalk, IsOnWalk, with_shrinks}
 use Rattle.quad_solve.proofs.Decided.{some_end, solved_is_solution}
 use Rattle.quad_solve.proofs.Descents.{prices_form_a_problem, solution_leads_down}

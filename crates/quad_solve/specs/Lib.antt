@@ -4,3 +4,4 @@ pub mod Walk
 pub mod Answer
 pub mod Operations
 pub mod Sites
+pub mod Worked

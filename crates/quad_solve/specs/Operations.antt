@@ -1,6 +1,6 @@
 -- The operations, in order and over exact values, of the value of a point, of the ways back from the form, of a price step, and of the
 -- multipliers of a refuted price problem.
-use Rattle.std.specs.Prelude.{ℕ, List, [], ◌∷◌, ◌++◌, length, map, take, drop, Option, Some, None, if◌then◌else◌}
+use Rattle.std.specs.Prelude.{ℕ, List, [], ◌∷◌, ◌++◌, length, map, take, drop, Option, Some, if◌then◌else◌}
 use Rattle.rational.specs.Rational.{ℚ, zero_ℚ, one_ℚ, ◌+ℚ◌, ◌/ℚ◌}
 use Rattle.rational.specs.Order.{same_fields}
 use Rattle.rational.specs.Vectors.{dot, rows_dot, put_at}

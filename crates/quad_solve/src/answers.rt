@@ -1,15 +1,16 @@
 //! The answer of a region by its three cases.
 
-ghost use Rattle.std.specs.Prelude.{◌≡◌, ◌≤◌, ℕ, List, length};
+ghost use Rattle.std.specs.Prelude.{◌≡◌, ◌≤◌, ℕ, List, [], ◌∷◌, length};
 ghost use Rattle.rational.specs.Rational.{ℚ};
 ghost use Rattle.rational.specs.Order.{◌≤ℚ◌};
 ghost use Rattle.rational.specs.Vectors.{IsSemidefinite};
 ghost use Rattle.program_law.specs.Region.{Region, IsCrossedRegion};
-ghost use Rattle.program_law.specs.Program.{Program, IsProgram};
+ghost use Rattle.program_law.specs.Program.{Program, IsProgram, bounds};
 ghost use Rattle.program_law.specs.Columns.{IsRelaxedPoint, value};
 ghost use Rattle.certificate_law.specs.Leaf.{IsGoodBound, IsGoodFarkas};
 ghost use Rattle.equational.specs.Solutions.{IsRegionRay};
-ghost use Rattle.quad_solve.specs.Answer.{Answer, IsAnswer, IsBest, IsEmpty, IsFalling, IsFound};
+ghost use Rattle.quad_solve.specs.Answer.{Answer, Ray, Best, IsAnswer, IsBest, IsEmpty, IsFalling, IsFound};
+ghost use Rattle.quad_solve.specs.Worked.{n, minus, hill, valley, slope};
 
 /// What a region's answer says is true of the region: its multipliers are a good FARKAS leaf; or its point is one of the
 /// region, and its direction one along which the values fall without end; or its point is one of the region with the least
@@ -54,4 +55,12 @@ pub fn regions_have_answers()
         IsFound p region a x → IsFound p region b y → x ≡ y }
     ensures more { (p : Program) (region : Region) (budget larger : ℕ) (answer : Answer) → budget ≤ larger →
         IsAnswer p region budget answer → IsAnswer p region larger answer }
+{}
+
+/// The answers of worked programs: the hill `x^2 + 4y^2 - 32y + 64` with two rows is least at (2, 3), with 8 there; the valley
+/// `(x + y - 2)^2` at (2, 0), with 0; and the slope `-x` falls without end from 0.
+pub fn worked_programs_have_their_answers()
+    ensures hill { IsAnswer hill (bounds hill) 6 (Best (n 2 ∷ n 3 ∷ []) (n 8) (n 0 ∷ minus 4 ∷ [])) }
+    ensures valley { IsAnswer valley (bounds valley) 1 (Best (n 2 ∷ n 0 ∷ []) (n 0) []) }
+    ensures slope { IsAnswer slope (bounds slope) 1 (Ray (n 0 ∷ []) (n 1 ∷ [])) }
 {}

@@ -8,7 +8,10 @@ mod rays;
 mod sites;
 mod walks;
 
-pub use answers::{answers_are_true, answers_exclude_each_other, regions_have_answers};
+pub use answers::{
+    answers_are_true, answers_exclude_each_other, regions_have_answers,
+    worked_programs_have_their_answers,
+};
 pub use prices::{
     price_length_is_computed, price_problem_leads_down, price_step_falls, refuted_price_is_optimal,
     stationary_points_are_few, supports_of_stationary_points_differ,
