@@ -238,7 +238,7 @@ module _ (n : ℕ) (f : Form) (is : IsForm n f) (definite : IsSemidefinite n f.q
   ends_by zero z b sol rayless = ⊎_elim (λ h. ([], tt, h)) (λ h. absurd (let c = (step_kept z sol h.0 h.1).smaller in omega arith)) (step_or_stationary z sol rayless)
   ends_by (suc k) z b sol rayless = ⊎_elim (λ h. ([], tt, h))
       (λ h. let kept = step_kept z sol h.0 h.1 in let c = kept.smaller in let r = ends_by k h.0 (omega arith) kept.solution rayless in
-          (r.0 ++ h.0 ∷ [], steps_after z h.0 r.0 h.1 r.1, subst (IsStationary f) (sym (newest_after z h.0 r.0)) r.2))
+      (r.0 ++ h.0 ∷ [], steps_after z h.0 r.0 h.1 r.1, subst (IsStationary f) (sym (newest_after z h.0 r.0)) r.2))
       (step_or_stationary z sol rayless)
 
   pub steps_end : (z : List ℚ) → IsSolution f z → ((r : List ℚ) → ¬ (IsFormRay f r)) → (points : List (List ℚ)) × AreShrinkSteps n f z points × IsStationary f (newest_point z points)
@@ -260,8 +260,8 @@ module _ (n : ℕ) (f : Form) (is : IsForm n f) (definite : IsSemidefinite n f.q
   step_loses : (z next : List ℚ) → IsSolution f z → IsShrinkStep n f z next → IsStationary f next ⊎ (length (support next) < length (support z))
   step_loses z next sol step = ⊎_elim
       (λ h. ⊎_elim (λ k. inl (full_is_stationary z sol next h (k.0)))
-          (λ k. inr (subst (λ t. length (support t) < length (support z)) (sym h.end)
-              (loses_a_place n z (on_support n z h.unknowns) h.step (wide z sol) (length-way n f z is (wide z sol) definite h.unknowns h.solved) (direction_off n z h.unknowns) (k.0)))) h.capped)
+      (λ k. inr (subst (λ t. length (support t) < length (support z)) (sym h.end)
+      (loses_a_place n z (on_support n z h.unknowns) h.step (wide z sol) (length-way n f z is (wide z sol) definite h.unknowns h.solved) (direction_off n z h.unknowns) (k.0)))) h.capped)
       (λ h. inr (refuted_loses z sol next h)) step
 
   pub record Few (z : List ℚ) (points : List (List ℚ)) : Type 0 where

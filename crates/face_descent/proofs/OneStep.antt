@@ -1,19 +1,19 @@
 -- The nearest zero as it is computed, and that a point has at most one shrink step.
-use Rattle.std.proofs.Common.{◌≡◌, refl, sym, ◌∙◌, ap, subst, ℕ, zero, suc, List, [], ◌∷◌, ◌++◌, length, take, arith, ⊎_elim, inl, inr, ◌⊎◌, Bool, true, false, if◌then◌else◌}
+use Rattle.std.proofs.Common.{◌≡◌, refl, sym, ◌∙◌, ap, subst, ℕ, zero, suc, List, [], ◌∷◌, ◌++◌, length, arith, ⊎_elim, inl, inr, Bool, true, false, if◌then◌else◌}
 use Rattle.std.specs.Prelude.{Option, Some, None}
 use Rattle.rational.specs.Divisors.{gcd_of}
 use Rattle.rational.specs.Rational.{ℚ, zero_ℚ, one_ℚ, neg_ℚ, ◌/ℚ◌, whole, ratio}
-use Rattle.rational.specs.Order.{◌≤ℚ◌, ◌<ℚ◌, same_fields}
+use Rattle.rational.specs.Order.{◌≤ℚ◌, ◌<ℚ◌}
 use Rattle.rational.specs.Sums.{entry}
 use Rattle.rational.specs.Vectors.{scale, zeros}
 use Rattle.rational.proofs.Order.{le_refl, lt_le, lt_irrefl, le_antisymm}
-use Rattle.rational.proofs.OrderLaws.{le_trans, lt-le_trans}
+use Rattle.rational.proofs.OrderLaws.{le_trans}
 use Rattle.program_law.specs.Tests.{is_negative, is_positive, is_le}
 use Rattle.program_law.proofs.Numbers.{negative_below, below_negative, le_tested, lt_tested}
-use Rattle.exact_matrix.specs.EliminationAnswers.{Answer, Solution, Refutation}
+use Rattle.exact_matrix.specs.EliminationAnswers.{Solution, Refutation}
 use Rattle.equational.specs.Form.{Form}
 use Rattle.face_descent.specs.Small.{support, small_answer, IsStationary}
-use Rattle.face_descent.specs.Step.{on_support, distance, moved, IsWithin, IsNearest, IsCapped, IsTurned, IsSolvedStep, IsRefutedStep, IsShrinkStep}
+use Rattle.face_descent.specs.Step.{on_support, moved, IsWithin, IsNearest, IsCapped, IsTurned, IsSolvedStep, IsRefutedStep, IsShrinkStep}
 use Rattle.face_descent.specs.Operations.{nearer, nearest_zero, turned, zero_ops, sum_ops, shrink_ops}
 use Rattle.face_descent.proofs.Supports.{put_at-zeros}
 

@@ -1,6 +1,6 @@
 -- The operations of the face calculation at a point z of a form, in order, over exact values: the gradient, the elimination of the small
 -- system, and the move along the direction that it gives.
-use Rattle.std.specs.Prelude.{ℕ, List, [], ◌∷◌, ◌++◌, length, Option, Some, None, if◌then◌else◌}
+use Rattle.std.specs.Prelude.{ℕ, List, [], ◌∷◌, ◌++◌, Option, Some, None, if◌then◌else◌}
 use Rattle.rational.specs.Rational.{ℚ, zero_ℚ, one_ℚ, neg_ℚ, ◌*ℚ◌, ◌/ℚ◌}
 use Rattle.rational.specs.Order.{same_fields}
 use Rattle.rational.specs.Vectors.{dot, scale, gradient}

@@ -89,7 +89,7 @@ module _ (p : linear.Problem) where
     ended_or_goes_on b earlier chain = ⊎_elim
         (λ z. inl (length earlier, inl (solution_of p b, record { basis = b; ends = here; zero_cost = z; solution = refl })))
         (λ r. ⊎_elim (λ f. inl (length earlier, inr (farkas_of p b, record { basis = b; ends = here; final = f; farkas = refl })))
-            (λ n. inr (goes_on p problem b (last_basis p b earlier chain) (last_standing p problem b earlier chain) n.0 n.1)) r)
+        (λ n. inr (goes_on p problem b (last_basis p b earlier chain) (last_standing p problem b earlier chain) n.0 n.1)) r)
         (kind b)
       where
         here : EndsWithin p (length earlier) b

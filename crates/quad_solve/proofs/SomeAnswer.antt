@@ -71,10 +71,11 @@ some_prices : (n : ℕ) (f : Form) → IsForm n f → (walk : List Visit) → (b
 some_prices n f form [] = (0, All-nil (λ v. IsStationary f v.point → IsDecidedWithin (price_problem f v.point) 0))
 some_prices n f form (v ∷ walk) =
     let e = some_end (price_problem f v.point) (prices_form_a_problem n f v.point form) in
-    let r = some_prices n f form walk in
-    (e.0 + r.0,
-        All-cons (λ v. IsStationary f v.point → IsDecidedWithin (price_problem f v.point) (e.0 + r.0)) v walk (λ st. more_decided (price_problem f v.point) e.0 (e.0 + r.0) (omega arith) e.1)
-        (more_prices f r.0 (e.0 + r.0) walk (omega arith) r.1))
+    let r = some_prices n f form walk in (
+      e.0 + r.0,
+      All-cons (λ v. IsStationary f v.point → IsDecidedWithin (price_problem f v.point) (e.0 + r.0)) v walk (λ st. more_decided (price_problem f v.point) e.0 (e.0 + r.0) (omega arith) e.1)
+          (more_prices f r.0 (e.0 + r.0) walk (omega arith) r.1),
+    )
 
 module _ (p : Program) (region : Region) (is : IsProgram p) (wide : length region ≡ length p.columns) (semi : IsSemidefinite (length p.columns) p.pairs) where
   abbrev f : Form
@@ -90,23 +91,26 @@ module _ (p : Program) (region : Region) (is : IsProgram p) (wide : length regio
       → IsWalkFrom (width p region) f start (newest ∷ earlier) → IsStationary f newest.point → IsRefutedWithin (price_problem f newest.point) e farkas → Told
   best b c e start w farkas newest earlier solved no_ray walk still refuted =
       let r = some_prices (width p region) f fits (newest ∷ earlier) in
-      let k = price_steps (newest ∷ earlier) in
-      (b + c + e + r.0 + k, Best (point_of region newest.point) (value p (point_of region newest.point)) (multipliers_of p region (price_multipliers f farkas)), record {
-        start = start;
-        solved = more_solved (feasible_problem f) b (b + c + e + r.0 + k) start (omega arith) solved;
-        no_ray = (w, more_refuted (ray_problem f) c (b + c + e + r.0 + k) w (omega arith) no_ray);
-        newest = newest;
-        earlier = earlier;
-        walk = walk;
-        stationary = still;
-        farkas = farkas;
-        refuted = more_refuted (price_problem f newest.point) e (b + c + e + r.0 + k) farkas (omega arith) refuted;
-        prices = more_prices f r.0 (b + c + e + r.0 + k) (newest ∷ earlier) (omega arith) r.1;
-        count = omega arith;
-        point = refl;
-        value = refl;
-        multipliers = refl;
-      })
+      let k = price_steps (newest ∷ earlier) in (
+        b + c + e + r.0 + k,
+        Best (point_of region newest.point) (value p (point_of region newest.point)) (multipliers_of p region (price_multipliers f farkas)),
+        record {
+          start = start;
+          solved = more_solved (feasible_problem f) b (b + c + e + r.0 + k) start (omega arith) solved;
+          no_ray = (w, more_refuted (ray_problem f) c (b + c + e + r.0 + k) w (omega arith) no_ray);
+          newest = newest;
+          earlier = earlier;
+          walk = walk;
+          stationary = still;
+          farkas = farkas;
+          refuted = more_refuted (price_problem f newest.point) e (b + c + e + r.0 + k) farkas (omega arith) refuted;
+          prices = more_prices f r.0 (b + c + e + r.0 + k) (newest ∷ earlier) (omega arith) r.1;
+          count = omega arith;
+          point = refl;
+          value = refl;
+          multipliers = refl;
+        },
+      )
 
   walked : (b c : ℕ) (start w : List ℚ) → IsSolvedWithin (feasible_problem f) b start → IsRefutedWithin (ray_problem f) c w → Told
   walked b c start w solved no_ray =
@@ -116,12 +120,16 @@ module _ (p : Program) (region : Region) (is : IsProgram p) (wide : length regio
 
   rays : (b : ℕ) (start : List ℚ) → IsSolvedWithin (feasible_problem f) b start → (budget : ℕ) × IsDecidedWithin (ray_problem f) budget → Told
   rays b start solved e = ⊎_elim
-      (λ s. (b + e.0, Ray (point_of region start) (direction_of region s.0), record {
+      (λ s. (
+        b + e.0,
+        Ray (point_of region start) (direction_of region s.0),
+        record {
           found = record { solution = start; solved = more_solved (feasible_problem f) b (b + e.0) start (omega arith) solved; point = refl };
           ray = s.0;
           solved = more_solved (ray_problem f) e.0 (b + e.0) s.0 (omega arith) s.1;
           direction = refl;
-        }))
+        },
+      ))
       (λ r. walked b e.0 start r.0 solved r.1) e.1
 
   pub some_answer : Told

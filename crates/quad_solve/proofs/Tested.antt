@@ -152,7 +152,7 @@ module _ (p : Problem) (b : Tableau) where
         positive = positive_above (entry (coordinates p b j) l) second.0;
         least = λ k m n h. ⊎_elim (λ s. absurd (n (same_is k l s)))
             (λ r. ⊎_elim (λ s. absurd (none (above_positive (entry (coordinates p b j) k) h) s)) (λ s. lex_is _ _ s)
-                (either (not (is_positive (entry (coordinates p b j) k))) (lex_below (quotient_row (coordinates p b j) (tableau_rows p b) l) (quotient_row (coordinates p b j) (tableau_rows p b) k)) r))
+            (either (not (is_positive (entry (coordinates p b j) k))) (lex_below (quotient_row (coordinates p b j) (tableau_rows p b) l) (quotient_row (coordinates p b j) (tableau_rows p b) k)) r))
             (either (k == l) (not (is_positive (entry (coordinates p b j) k)) || lex_below (quotient_row (coordinates p b j) (tableau_rows p b) l) (quotient_row (coordinates p b j) (tableau_rows p b) k))
             (each_below (is_least j l) (height p) second.1 k m));
       }

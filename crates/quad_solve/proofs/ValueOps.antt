@@ -140,7 +140,7 @@ products_answer (row ∷ rows) (xj ∷ xs) x =
 
     by : (b : Bool) → Answers (product_ops rows xs x) (masked rows xs x) (row_products rows xs x)
         → Answers (if b then product_ops rows xs x else dot_ops row x ++ product_ops rows xs x) ((if b then zero_ℚ else dot row x) ∷ masked rows xs x)
-            ((if b then Ok zero_ℚ else dot_of row x) >>= λ t. row_products rows xs x >>= λ ts. Ok (t ∷ ts))
+        ((if b then Ok zero_ℚ else dot_of row x) >>= λ t. row_products rows xs x >>= λ ts. Ok (t ∷ ts))
     by true h = rest zero_ℚ h
     by false h = in_turn (dot_ops row x) (product_ops rows xs x) (dot row x) (dot row x ∷ masked rows xs x) (dot_of row x) (λ t. row_products rows xs x >>= λ ts. Ok (t ∷ ts)) (dot_answers row x) (rest (dot row x) h)
 

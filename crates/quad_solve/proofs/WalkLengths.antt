@@ -163,7 +163,7 @@ module _ (n : ℕ) (f : Form) (form : IsForm n f) (semi : IsSemidefinite n f.qua
     ends_by : (fuel : ℕ) (v : Visit) (earlier : List Visit) → IsWalkFrom n f x (v ∷ earlier) → 2 ^ n * suc n ≤ fuel + length (v ∷ earlier) → EndedWalk
     ends_by zero v earlier h room = ⊎_elim (λ e. record { newest = v; earlier = earlier; walk = h; stationary = e.0; farkas = e.1; refuted = e.2 })
         (λ s. absurd (full (2 ^ n * suc n) (length (v ∷ earlier)) room
-            (few_points (record { point = s.1; way = s.0 } ∷ v ∷ earlier) (goes_further n f form semi x start v earlier s.0 s.1 h s.2))))
+        (few_points (record { point = s.1; way = s.0 } ∷ v ∷ earlier) (goes_further n f form semi x start v earlier s.0 s.1 h s.2))))
         (step_or_end n f form semi v.point (newest_solves n f form semi x start v earlier h) rayless)
       where
         full : (w k : ℕ) → w ≤ 0 + k → suc k ≤ w → ⊥

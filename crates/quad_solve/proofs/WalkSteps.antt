@@ -126,8 +126,12 @@ module _ (n : ℕ) (f : Form) (form : IsForm n f) (semi : IsSemidefinite n f.qua
 
     pub goes_further : (v : Visit) (earlier : List Visit) (way : Way) (next : List ℚ) → IsWalkFrom n f x (v ∷ earlier) → GoesOn n f way v.point next
         → IsWalkFrom n f x (record { point = next; way = way } ∷ v ∷ earlier)
-    goes_further v earlier way next h g = (g, (λ st. All-weaker (λ w. IsStationary f w.point → height f next <ℚ height f w.point) (λ w. IsStationary f w.point → height f next <ℚ height f w.point) (λ w l. l) (v ∷ earlier)
-        (below_next way v earlier next (newest_solves v earlier h) g (below_still v earlier h))), h)
+    goes_further v earlier way next h g = (
+      g,
+      (λ st. All-weaker (λ w. IsStationary f w.point → height f next <ℚ height f w.point) (λ w. IsStationary f w.point → height f next <ℚ height f w.point) (λ w l. l) (v ∷ earlier)
+          (below_next way v earlier next (newest_solves v earlier h) g (below_still v earlier h))),
+      h,
+    )
 
     pub shrinks_further : (v : Visit) (earlier : List Visit) (points : List (List ℚ)) → IsWalkFrom n f x (v ∷ earlier) → AreShrinkSteps n f v.point points
         → IsWalkFrom n f x (with_shrinks points (v ∷ earlier))

@@ -1,6 +1,5 @@
-use Rattle.std.proofs.Common.{sym, ◌∙◌, subst}
+use Rattle.std.proofs.Common.{sym, subst}
 use Rattle.face_descent.specs.Step.{IsCapped}
-use Rattle.face_descent.specs.Operations.{nearest_zero}
 use Rattle.face_descent.proofs.OneStep.{IsToldNearest, nearest_told, nearest_is, capped_is, one_capped, turned_is, one_shrink, still_ops}
 use Rattle.face_descent.proofs.steps.shrink_steps_are_determined.Goals as goal
 
