@@ -23,4 +23,5 @@ pub mod Tested
 mod WorkedValley
 mod WorkedHill
 mod WorkedSlope
+mod WorkedPortfolio
 pub mod Worked

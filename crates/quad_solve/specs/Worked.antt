@@ -1,6 +1,6 @@
--- Worked programs. Names are single letters here, as bytes: 'o' for the objective, 'a', 'b' for rows, 'x', 'y' for columns.
+-- Worked programs. Names are single letters here, as bytes.
 use Rattle.std.specs.Prelude.{ℕ, pos, neg_ℤ, [], ◌∷◌, Some, None, false}
-use Rattle.rational.specs.Rational.{ℚ, whole}
+use Rattle.rational.specs.Rational.{ℚ, whole, fraction}
 use Rattle.program_law.specs.Program.{Program}
 
 abbrev pub n : ℕ → ℚ
@@ -19,6 +19,27 @@ hill = record {
   costs = n 0 ∷ minus 32 ∷ [];
   constant = n 64;
   pairs = (n 2 ∷ n 0 ∷ []) ∷ (n 0 ∷ n 8 ∷ []) ∷ [];
+}
+
+-- p / q
+abbrev pub over : ℕ → ℕ → ℚ
+over p q = fraction (pos p) q
+
+-- -(p / q)
+abbrev pub minus_over : ℕ → ℕ → ℚ
+minus_over p q = fraction (neg_ℤ (pos p)) q
+
+-- 4a^2 + 2b^2 + c^2 with a + b + c = 1, 10a + 6b + 4c ≥ 7, and a, b, c ≥ 0
+abbrev pub portfolio : Program
+portfolio = record {
+  objective = 111 ∷ [];
+  rows = (117 ∷ [], record { low = Some (n 1); high = Some (n 1) }) ∷ (118 ∷ [], record { low = Some (n 7); high = None }) ∷ [];
+  columns = (97 ∷ [], record { low = Some (n 0); high = None; whole = false }) ∷ (98 ∷ [], record { low = Some (n 0); high = None; whole = false })
+      ∷ (99 ∷ [], record { low = Some (n 0); high = None; whole = false }) ∷ [];
+  entries = (n 1 ∷ n 1 ∷ n 1 ∷ []) ∷ (n 10 ∷ n 6 ∷ n 4 ∷ []) ∷ [];
+  costs = n 0 ∷ n 0 ∷ n 0 ∷ [];
+  constant = n 0;
+  pairs = (n 8 ∷ n 0 ∷ n 0 ∷ []) ∷ (n 0 ∷ n 4 ∷ n 0 ∷ []) ∷ (n 0 ∷ n 0 ∷ n 2 ∷ []) ∷ [];
 }
 
 -- (x + y - 2)^2 with x ≥ 0, y ≥ 0

@@ -10,7 +10,7 @@ ghost use Rattle.program_law.specs.Columns.{IsRelaxedPoint, value};
 ghost use Rattle.certificate_law.specs.Leaf.{IsGoodBound, IsGoodFarkas};
 ghost use Rattle.equational.specs.Solutions.{IsRegionRay};
 ghost use Rattle.quad_solve.specs.Answer.{Answer, Ray, Best, IsAnswer, IsBest, IsEmpty, IsFalling, IsFound};
-ghost use Rattle.quad_solve.specs.Worked.{n, minus, hill, valley, slope};
+ghost use Rattle.quad_solve.specs.Worked.{n, minus, minus_over, over, hill, portfolio, valley, slope};
 
 /// What a region's answer says is true of the region: its multipliers are a good FARKAS leaf; or its point is one of the
 /// region, and its direction one along which the values fall without end; or its point is one of the region with the least
@@ -57,10 +57,13 @@ pub fn regions_have_answers()
         IsAnswer p region budget answer → IsAnswer p region larger answer }
 {}
 
-/// The answers of worked programs: the hill `x^2 + 4y^2 - 32y + 64` with two rows is least at (2, 3), with 8 there; the valley
-/// `(x + y - 2)^2` at (2, 0), with 0; and the slope `-x` falls without end from 0.
+/// The answers of worked programs: the hill `x^2 + 4y^2 - 32y + 64` with two rows is least at (2, 3), with 8 there; the
+/// portfolio `4a^2 + 2b^2 + c^2` with two rows at (5/13, 9/26, 7/26), with 47/52; the valley `(x + y - 2)^2` at (2, 0), with 0;
+/// and the slope `-x` falls without end from 0.
 pub fn worked_programs_have_their_answers()
     ensures hill { IsAnswer hill (bounds hill) 6 (Best (n 2 ∷ n 3 ∷ []) (n 8) (n 0 ∷ minus 4 ∷ [])) }
+    ensures portfolio { IsAnswer portfolio (bounds portfolio) 6
+        (Best (over 5 13 ∷ over 9 26 ∷ over 7 26 ∷ []) (over 47 52) (minus_over 15 13 ∷ over 11 26 ∷ [])) }
     ensures valley { IsAnswer valley (bounds valley) 1 (Best (n 2 ∷ n 0 ∷ []) (n 0) []) }
     ensures slope { IsAnswer slope (bounds slope) 1 (Ray (n 0 ∷ []) (n 1 ∷ [])) }
 {}
