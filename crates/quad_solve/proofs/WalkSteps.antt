@@ -1,5 +1,5 @@
 -- Walks: what each step keeps, how they go on, and how the values fall.
-use Rattle.std.proofs.Common.{refl, sym, subst, ℕ, ◌⊎◌, inl, inr, ⊎_elim, List, [], ◌∷◌, arith}
+use Rattle.std.proofs.Common.{◌≡◌, refl, sym, subst, ℕ, ◌⊎◌, inl, inr, ⊎_elim, List, [], ◌∷◌, arith}
 use Rattle.std.specs.Prelude.{All}
 use Rattle.std.specs.List.{AllPairs}
 use Rattle.std.proofs.lemmas.List.Elements.{All-nil, All-cons, All-weaker}
@@ -13,10 +13,10 @@ use Rattle.equational.specs.Form.{Form}
 use Rattle.equational.specs.Solutions.{IsForm, IsSolution, IsFormRay}
 use Rattle.face_descent.specs.Small.{IsStationary}
 use Rattle.face_descent.specs.Step.{IsShrinkStep, AreShrinkSteps, newest_point}
-use Rattle.face_descent.proofs.Ends.{step_kept, stationary_has_no_step, step_or_stationary}
+use Rattle.face_descent.proofs.Ends.{step_kept, steps_kept, stationary_has_no_step, step_or_stationary}
 use Rattle.quad_solve.specs.Problems.{feasible_problem, price_problem, direction}
 use Rattle.quad_solve.specs.Steps.{LeadsDown, HaveSameSupport, height}
-use Rattle.quad_solve.specs.Walk.{Way, Start, Shrink, Price, Visit, IsSolved, IsRefuted, IsPriced, GoesOn, IsLowest, IsWalkFrom, IsWalk, IsOnWalk, with_shrinks}
+use Rattle.quad_solve.specs.Walk.{Way, Start, Shrink, Price, Visit, IsSolved, IsRefuted, IsPriced, GoesOn, IsLowest, IsWalkFrom, IsWalk, IsOnWalk, with_shrinks, IsDecidedWithin, HasPricesWithin, price_steps}
 use Rattle.quad_solve.proofs.Decided.{some_end, solved_is_solution}
 use Rattle.quad_solve.proofs.Descents.{prices_form_a_problem, solution_leads_down}
 use Rattle.quad_solve.proofs.Directions.{feasible_is_a_problem, feasible_solutions}
@@ -147,3 +147,34 @@ on_walk n f x (v ∷ []) solved h =
     All-cons (λ v. IsOnWalk n f v.point) v [] (record { way = v.way; earlier = []; walk = record { start = x; solved = solved; steps = h } }) (All-nil (λ v. IsOnWalk n f v.point))
 on_walk n f x (v ∷ u ∷ earlier) solved h =
     All-cons (λ v. IsOnWalk n f v.point) v (u ∷ earlier) (record { way = v.way; earlier = u ∷ earlier; walk = record { start = x; solved = solved; steps = h } }) (on_walk n f x (u ∷ earlier) solved h.2)
+
+-- a point that a step or a list of shrink steps reaches from a point of a walk is one of a walk
+pub step_on_walk : (n : ℕ) (f : Form) (way : Way) (z next : List ℚ) → IsForm n f → IsSemidefinite n f.quadratic → IsOnWalk n f z → GoesOn n f way z next → IsOnWalk n f next
+step_on_walk n f way z next form semi h g = record {
+  way = way;
+  earlier = record { point = z; way = h.way } ∷ h.earlier;
+  walk = record {
+      start = h.walk.start;
+      solved = h.walk.solved;
+      steps = goes_further n f form semi h.walk.start (start_solves n f h.walk.start form h.walk.solved) (record { point = z; way = h.way }) h.earlier way next h.walk.steps g;
+    };
+}
+
+pub shrinks_on_walk : (n : ℕ) (f : Form) (z : List ℚ) (points : List (List ℚ)) → IsForm n f → IsSemidefinite n f.quadratic → IsOnWalk n f z → AreShrinkSteps n f z points → IsOnWalk n f (newest_point z points)
+shrinks_on_walk n f z [] form semi h steps = h
+shrinks_on_walk n f z (next ∷ earlier) form semi h steps = step_on_walk n f Shrink (newest_point z earlier) next form semi (shrinks_on_walk n f z earlier form semi h steps.1) steps.0
+
+-- ---- shrink steps and the budget
+
+pub shrinks_count : (points : List (List ℚ)) (walk : List Visit) → price_steps (with_shrinks points walk) ≡ price_steps walk
+shrinks_count [] walk = refl
+shrinks_count (z ∷ points) walk = let a = shrinks_count points walk in omega (arith, a)
+
+pub shrinks_prices : (n : ℕ) (f : Form) (budget : ℕ) (v : Visit) (earlier : List Visit) (points : List (List ℚ)) → IsForm n f → IsSemidefinite n f.quadratic → IsSolution f v.point
+    → HasPricesWithin f budget (v ∷ earlier) → AreShrinkSteps n f v.point points → (IsStationary f (newest_point v.point points) → IsDecidedWithin (price_problem f (newest_point v.point points)) budget)
+    → HasPricesWithin f budget (with_shrinks points (v ∷ earlier))
+shrinks_prices n f budget v earlier [] form semi sol h steps decided = h
+shrinks_prices n f budget v earlier (z ∷ points) form semi sol h steps decided =
+    All-cons (λ v. IsStationary f v.point → IsDecidedWithin (price_problem f v.point) budget) (record { point = z; way = Shrink }) (with_shrinks points (v ∷ earlier)) decided
+    (shrinks_prices n f budget v earlier points form semi sol h steps.1
+    (λ st. absurd (stationary_has_no_step n f form semi (newest_point v.point points) (steps_kept n f form semi v.point points sol steps.1).solution z st steps.0)))

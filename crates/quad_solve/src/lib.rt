@@ -21,4 +21,6 @@ pub use rays::{
     rays_depend_on_which_bounds_exist,
 };
 pub use sites::{large_budgets_are_enough, value_ends_with_its_first_refusal};
-pub use walks::{walk_values_fall, walks_are_short, walks_end, walks_go_on};
+pub use walks::{
+    shrink_steps_keep_the_budget, walk_values_fall, walks_are_short, walks_end, walks_go_on,
+};
