@@ -1,6 +1,6 @@
 -- Tests that compute, for worked chains: each step and each end of a chain is shown by one test.
-use Rattle.std.proofs.Common.{◌≡◌, ◌≢◌, refl, sym, ◌∙◌, ap, subst, ℕ, zero, suc, ◌<◌, ◌≤◌, ◌⊎◌, inl, inr, ⊎_elim, Bool, true, false, List, [], ◌∷◌, length, ◌&&◌, ◌||◌, ◌==◌, if◌then◌else◌, arith}
-use Rattle.std.specs.Prelude.{slice_index_or, nat_lt, not, All, Option, Some, None}
+use Rattle.std.proofs.Common.{◌≡◌, ◌≢◌, refl, sym, ◌∙◌, ap, subst, ℕ, zero, suc, ◌+◌, ◌<◌, ◌≤◌, ◌⊎◌, inl, inr, ⊎_elim, Bool, true, false, List, [], ◌∷◌, length, ◌&&◌, ◌||◌, ◌==◌, if◌then◌else◌, arith}
+use Rattle.std.specs.Prelude.{slice_index_or, nat_lt, nat_le, not, All, Option, Some, None}
 use Rattle.std.proofs.lemmas.List.Elements.{All-nil, All-cons}
 use Rattle.std.proofs.lemmas.Bool.Decides.{nat_tests}
 use Rattle.rational.specs.Rational.{ℚ, zero_ℚ}
@@ -11,9 +11,10 @@ use Rattle.program_law.specs.Tests.{is_negative, is_positive, is_le}
 use Rattle.program_law.proofs.Numbers.{negative_below, below_negative, positive_above, above_positive, le_tested, lt_tested}
 use Rattle.linear_basis.specs.Problem.{Problem, IsProblem, height}
 use Rattle.linear_basis.specs.Lexicographic.{IsLexBelow}
-use Rattle.linear_basis.specs.Basis.{Tableau, IsBasis, IsStanding, IsZeroCost, IsFinal, point, price, tableau_rows}
+use Rattle.linear_basis.specs.Basis.{Tableau, IsBasis, IsStanding, IsZeroCost, IsFinal, point, price, tableau_rows, unit_basis, solution_of, farkas_of}
+use Rattle.linear_basis.proofs.Units.{units_basis, units_standing}
 use Rattle.linear_basis.specs.Exchange.{IsLeaving, coordinates, quotient_row, exchanged}
-use Rattle.linear_simplex.specs.Chain.{IsEntering, IsStrictStep}
+use Rattle.linear_simplex.specs.Chain.{IsEntering, IsStrictStep, IsChain, EndsWithin}
 use Rattle.linear_simplex.proofs.Steps.{ratio_steps}
 use Rattle.program_law.specs.Region.{Region}
 use Rattle.program_law.specs.Program.{Program}
@@ -25,11 +26,11 @@ use Rattle.face_descent.specs.Step.{moved}
 use Rattle.face_descent.proofs.Stationary.{stationary_of}
 use Rattle.quad_solve.specs.Problems.{feasible_problem, ray_problem, price_problem, price_multipliers, direction}
 use Rattle.quad_solve.specs.Steps.{LeadsDown, IsPriceStep, curvature}
-use Rattle.quad_solve.specs.Walk.{IsSolved, IsPriced, IsSolvedWithin, IsRefutedWithin, IsWalkFrom, HasPricesWithin, Way, Visit, price_steps}
+use Rattle.quad_solve.specs.Walk.{IsSolved, IsPriced, IsSolvedWithin, IsRefutedWithin, IsDecidedWithin, Start, Price}
 use Rattle.quad_solve.specs.Answer.{IsBest}
 use Rattle.quad_solve.specs.Operations.{price_length}
 use Rattle.quad_solve.proofs.Few.{past_the_end, below_or}
-use Rattle.quad_solve.proofs.WalkSteps.{priced_down}
+use Rattle.quad_solve.proofs.WalkSteps.{priced_down, start_solves, goes_further}
 use Rattle.quad_solve.proofs.PriceLength.{length_is}
 
 both : (a b : Bool) → (a && b) ≡ true → (a ≡ true) × (b ≡ true)
@@ -208,7 +209,7 @@ stepped p problem b basis standing k j l N e =
     subst (λ M. IsStrictStep p b (record { columns = (exchanged p b j l).columns; inverse = M })) (rows_are (exchanged p b j l).inverse N third.1)
     (ratio_steps p problem b j l basis standing (costly p b k first.0) (entering p b j second.0) (leaving p b j l third.0))
 
--- ---- forms, problems and solutions
+-- ---- problems
 
 abbrev all_long : ℕ → List (List ℚ) → Bool
 all_long n [] = true
@@ -246,6 +247,87 @@ problem_is p q e =
   where
     made : ℕ → List (List ℚ) → List ℚ → Problem
     made g M r = record { given = g; rows = M; right = r }
+
+-- ---- chains
+
+-- a strict step: the unit column at `costly` costs something, the column `enter` comes in at the place `leave`, and the inverse after it
+pub record Stage : Type 0 where
+  pub costly : ℕ
+  pub enter : ℕ
+  pub leave : ℕ
+  pub inverse : List (List ℚ)
+
+abbrev pub stage : ℕ → ℕ → ℕ → List (List ℚ) → Stage
+stage k j l N = record { costly = k; enter = j; leave = l; inverse = N }
+
+abbrev pub after : Problem → Tableau → Stage → Tableau
+after p b s = record { columns = (exchanged p b s.enter s.leave).columns; inverse = s.inverse }
+
+abbrev pub after_all : Problem → Tableau → List Stage → Tableau
+after_all p b [] = b
+after_all p b (s ∷ stages) = after_all p (after p b s) stages
+
+abbrev pub passes : Problem → Tableau → List Stage → Bool
+passes p b [] = true
+passes p b (s ∷ stages) = steps_to p b s.costly s.enter s.leave s.inverse && passes p (after p b s) stages
+
+-- a chain that ends at b, with so many strict steps
+record IsChainOf (p : Problem) (b : Tableau) (count : ℕ) : Type 0 where
+  earlier : List Tableau
+  chain : IsChain p (b ∷ earlier)
+  size : length earlier ≡ count
+
+goes_through : (p : Problem) → IsProblem p → (b : Tableau) (k : ℕ) (stages : List Stage) → IsBasis p b → IsStanding p b → IsChainOf p b k → passes p b stages ≡ true
+    → IsChainOf p (after_all p b stages) (length stages + k)
+goes_through p fits b k [] basis standing h e = record { earlier = h.earlier; chain = h.chain; size = h.size ∙ omega arith }
+goes_through p fits b k (s ∷ stages) basis standing h e =
+    let t = both (steps_to p b s.costly s.enter s.leave s.inverse) (passes p (after p b s) stages) e in
+    let step = stepped p fits b basis standing s.costly s.enter s.leave s.inverse t.0 in
+    let rest = goes_through p fits (after p b s) (suc k) stages step.basis step.standing (record { earlier = b ∷ h.earlier; chain = (step, h.chain); size = ap suc h.size }) t.1 in
+    record { earlier = rest.earlier; chain = rest.chain; size = rest.size ∙ omega arith }
+
+-- the chain of a problem from its unit basis on, where p is the problem with its numbers calculated
+abbrev pub is_chain : Problem → Problem → List Stage → ℕ → Bool
+is_chain source p stages budget = same_problem source p && (is_problem p && (passes p (unit_basis p) stages && nat_le (length stages) budget))
+
+ends_within : (source p : Problem) (stages : List Stage) (budget : ℕ) → is_chain source p stages budget ≡ true → (source ≡ p) × EndsWithin p budget (after_all p (unit_basis p) stages)
+ends_within source p stages budget e =
+    let a = both (same_problem source p) (is_problem p && (passes p (unit_basis p) stages && nat_le (length stages) budget)) e in
+    let b = both (is_problem p) (passes p (unit_basis p) stages && nat_le (length stages) budget) a.1 in
+    let c = both (passes p (unit_basis p) stages) (nat_le (length stages) budget) b.1 in
+    let fits = problem p b.0 in
+    let h = goes_through p fits (unit_basis p) 0 stages (units_basis p) (units_standing p fits) (record { earlier = []; chain = refl; size = refl }) c.0 in
+    (problem_is source p a.0, record { earlier = h.earlier; chain = h.chain; count = at_most (length h.earlier) (length stages) budget h.size c.1 })
+  where
+    at_most : (m l b : ℕ) → m ≡ l + 0 → nat_le l b ≡ true → m ≤ b
+    at_most m l b e f = let g : l ≤ b = grind (arith, nat_tests) in omega (arith, e, g)
+
+abbrev pub solves_by : Problem → Problem → List Stage → ℕ → List ℚ → Bool
+solves_by source p stages budget x =
+    is_chain source p stages budget && (costs_nothing p (after_all p (unit_basis p) stages) && same_list (solution_of p (after_all p (unit_basis p) stages)) x)
+
+pub solved_by : (source p : Problem) (stages : List Stage) (budget : ℕ) (x : List ℚ) → solves_by source p stages budget x ≡ true → IsSolvedWithin source budget x
+solved_by source p stages budget x e =
+    let b = after_all p (unit_basis p) stages in
+    let s = both (is_chain source p stages budget) (costs_nothing p b && same_list (solution_of p b) x) e in
+    let t = both (costs_nothing p b) (same_list (solution_of p b) x) s.1 in
+    let c = ends_within source p stages budget s.0 in
+    subst (λ q. IsSolvedWithin q budget x) (sym c.0) (record { basis = b; ends = c.1; zero_cost = zero_cost p b t.0; solution = sym (list_is (solution_of p b) x t.1) })
+
+-- the unit column at k costs something at the end
+abbrev pub refutes_by : Problem → Problem → List Stage → ℕ → ℕ → List ℚ → Bool
+refutes_by source p stages k budget y =
+    is_chain source p stages budget && (ends_at p (after_all p (unit_basis p) stages) k && same_list (farkas_of p (after_all p (unit_basis p) stages)) y)
+
+pub refuted_by : (source p : Problem) (stages : List Stage) (k budget : ℕ) (y : List ℚ) → refutes_by source p stages k budget y ≡ true → IsRefutedWithin source budget y
+refuted_by source p stages k budget y e =
+    let b = after_all p (unit_basis p) stages in
+    let s = both (is_chain source p stages budget) (ends_at p b k && same_list (farkas_of p b) y) e in
+    let t = both (ends_at p b k) (same_list (farkas_of p b) y) s.1 in
+    let c = ends_within source p stages budget s.0 in
+    subst (λ q. IsRefutedWithin q budget y) (sym c.0) (record { basis = b; ends = c.1; final = final p b k t.0; farkas = sym (list_is (farkas_of p b) y t.1) })
+
+-- ---- forms and solutions
 
 abbrev pub is_form : ℕ → Form → Bool
 is_form n f =
@@ -359,34 +441,45 @@ priced n f z x d s next fits semi at still solved e =
 
 -- ---- answers
 
--- a walk over n columns of a form that ends at z, within a budget, with all that a region's answer asks for
-pub record EndsBest (n : ℕ) (f : Form) (budget : ℕ) (z farkas : List ℚ) : Type 0 where
-  pub start : List ℚ
+-- the answer of a form whose walk has one price step, from start to end
+pub record IsOneStep (n : ℕ) (f : Form) (budget : ℕ) (start end farkas : List ℚ) : Type 0 where
+  pub fits : IsForm n f
+  pub convex : IsSemidefinite n f.quadratic
   pub solved : IsSolvedWithin (feasible_problem f) budget start
   pub no_ray : (w : List ℚ) × IsRefutedWithin (ray_problem f) budget w
-  pub way : Way
-  pub earlier : List Visit
-  pub walk : IsWalkFrom n f start (record { point = z; way = way } ∷ earlier)
-  pub still : IsStationary f z
-  pub refuted : IsRefutedWithin (price_problem f z) budget farkas
-  pub prices : HasPricesWithin f budget (record { point = z; way = way } ∷ earlier)
-  pub count : price_steps (record { point = z; way = way } ∷ earlier) ≤ budget
+  pub direction : (x : List ℚ) × IsSolvedWithin (price_problem f start) budget x
+  pub step : IsPriced f start end
+  pub still : IsStationary f end
+  pub refuted : IsRefutedWithin (price_problem f end) budget farkas
+  pub room : 1 ≤ budget
 
-pub best_by : (p : Program) (region : Region) (budget : ℕ) (z farkas x : List ℚ) (least : ℚ) (y : List ℚ) → EndsBest (width p region) (form_of p region) budget z farkas
-    → x ≡ point_of region z → least ≡ value p x → y ≡ multipliers_of p region (price_multipliers (form_of p region) farkas) → IsBest p region budget x least y
-best_by p region budget z farkas x least y h at v m = record {
-  start = h.start;
-  solved = h.solved;
-  no_ray = h.no_ray;
-  newest = record { point = z; way = h.way };
-  earlier = h.earlier;
-  walk = h.walk;
-  stationary = h.still;
-  farkas = farkas;
-  refuted = h.refuted;
-  prices = h.prices;
-  count = h.count;
-  point = at;
-  value = v;
-  multipliers = m;
-}
+-- what is carried back of it, in a region with this form
+pub best_by : (p : Program) (region : Region) (f : Form) (n budget : ℕ) (start end farkas x : List ℚ) (least : ℚ) (y : List ℚ) → form_of p region ≡ f → width p region ≡ n
+    → IsOneStep n f budget start end farkas → x ≡ point_of region end → least ≡ value p x → y ≡ multipliers_of p region (price_multipliers f farkas) → IsBest p region budget x least y
+best_by p region f n budget start end farkas x least y e w h at v m =
+    by (subst (λ f. IsOneStep (width p region) f budget start end farkas) (sym e) (subst (λ (k : ℕ). IsOneStep k f budget start end farkas) (sym w) h))
+    (subst (λ f. y ≡ multipliers_of p region (price_multipliers f farkas)) (sym e) m)
+  where
+    by : IsOneStep (width p region) (form_of p region) budget start end farkas → y ≡ multipliers_of p region (price_multipliers (form_of p region) farkas) → IsBest p region budget x least y
+    by h m =
+        let f = form_of p region in
+        let solves = start_solves (width p region) f start h.fits (budget, h.solved) in
+        record {
+          start = start;
+          solved = h.solved;
+          no_ray = h.no_ray;
+          newest = record { point = end; way = Price };
+          earlier = record { point = start; way = Start } ∷ [];
+          walk = goes_further (width p region) f h.fits h.convex start solves (record { point = start; way = Start }) [] Price end refl h.step;
+          stationary = h.still;
+          farkas = farkas;
+          refuted = h.refuted;
+          prices = All-cons (λ v. IsStationary f v.point → IsDecidedWithin (price_problem f v.point) budget) (record { point = end; way = Price }) (record { point = start; way = Start } ∷ [])
+              (λ st. inr (farkas, h.refuted))
+              (All-cons (λ v. IsStationary f v.point → IsDecidedWithin (price_problem f v.point) budget) (record { point = start; way = Start }) [] (λ st. inl h.direction)
+              (All-nil (λ v. IsStationary f v.point → IsDecidedWithin (price_problem f v.point) budget)));
+          count = let r = h.room in omega arith;
+          point = at;
+          value = v;
+          multipliers = m;
+        }

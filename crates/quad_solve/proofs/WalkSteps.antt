@@ -154,10 +154,10 @@ step_on_walk n f way z next form semi h g = record {
   way = way;
   earlier = record { point = z; way = h.way } ∷ h.earlier;
   walk = record {
-      start = h.walk.start;
-      solved = h.walk.solved;
-      steps = goes_further n f form semi h.walk.start (start_solves n f h.walk.start form h.walk.solved) (record { point = z; way = h.way }) h.earlier way next h.walk.steps g;
-    };
+    start = h.walk.start;
+    solved = h.walk.solved;
+    steps = goes_further n f form semi h.walk.start (start_solves n f h.walk.start form h.walk.solved) (record { point = z; way = h.way }) h.earlier way next h.walk.steps g;
+  };
 }
 
 pub shrinks_on_walk : (n : ℕ) (f : Form) (z : List ℚ) (points : List (List ℚ)) → IsForm n f → IsSemidefinite n f.quadratic → IsOnWalk n f z → AreShrinkSteps n f z points → IsOnWalk n f (newest_point z points)
