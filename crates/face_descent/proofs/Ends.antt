@@ -1,5 +1,5 @@
 -- Shrink steps keep what they must, and end.
-use Rattle.std.proofs.Common.{◌≡◌, ◌≢◌, refl, sym, ◌∙◌, ap, subst, ℕ, zero, suc, ◌+◌, ◌<◌, ◌≤◌, List, [], ◌∷◌, length, take, arith, ⊎_elim, inl, inr, ◌⊎◌, Bool, true, false, if◌then◌else◌, ◌==◌}
+use Rattle.std.proofs.Common.{◌≡◌, ◌≢◌, refl, sym, ◌∙◌, ap, subst, ℕ, zero, suc, ◌+◌, ◌<◌, ◌≤◌, List, [], ◌∷◌, ◌++◌, length, take, arith, ⊎_elim, inl, inr, ◌⊎◌, Bool, true, false, if◌then◌else◌, ◌==◌}
 use Rattle.std.proofs.lemmas.List.Elements.{All-from_get_or}
 use Rattle.std.proofs.lemmas.Bool.Decides.{nat_tests}
 use Rattle.rational.specs.Rational.{ℚ, zero_ℚ, one_ℚ, neg_ℚ}
@@ -13,7 +13,7 @@ use Rattle.exact_matrix.specs.EliminationAnswers.{Answer, Solution, Refutation}
 use Rattle.equational.specs.Form.{Form}
 use Rattle.equational.specs.Solutions.{IsForm, IsSolution, IsFormRay}
 use Rattle.face_descent.specs.Small.{support, support_from, small_answer, IsStationary}
-use Rattle.face_descent.specs.Step.{on_support, moved, IsTurned, IsWithin, IsNearest, IsSolvedStep, IsRefutedStep, IsShrinkStep, AreShrinkSteps, last_point, is_still, measure}
+use Rattle.face_descent.specs.Step.{on_support, moved, IsTurned, IsWithin, IsNearest, IsSolvedStep, IsRefutedStep, IsShrinkStep, AreShrinkSteps, newest_point, is_still, measure}
 use Rattle.face_descent.proofs.Supports.{off_support}
 use Rattle.face_descent.proofs.Stationary.{length-e}
 use Rattle.face_descent.proofs.Directions.{direction_off, length-way, way_solves, way_keeps, value_within_one, full_stationary, length-turned, turned_keeps, turned_flat, turned_slope, turned_off, turned_falls, turned_cost}
@@ -210,25 +210,72 @@ module _ (n : ℕ) (f : Form) (is : IsForm n f) (definite : IsSemidefinite n f.q
   -- ---- lists of steps
 
   pub record Ended (z : List ℚ) (points : List (List ℚ)) : Type 0 where
-    pub solution : IsSolution f (last_point z points)
-    pub value_down : value (last_point z points) ≤ℚ value z
-    pub within : (j : ℕ) → entry z j ≡ zero_ℚ → entry (last_point z points) j ≡ zero_ℚ
-    pub bounded : measure f (last_point z points) + length points ≤ measure f z
+    pub solution : IsSolution f (newest_point z points)
+    pub value_down : value (newest_point z points) ≤ℚ value z
+    pub within : (j : ℕ) → entry z j ≡ zero_ℚ → entry (newest_point z points) j ≡ zero_ℚ
+    pub bounded : measure f (newest_point z points) + length points ≤ measure f z
 
   pub steps_kept : (z : List ℚ) (points : List (List ℚ)) → IsSolution f z → AreShrinkSteps n f z points → Ended z points
   steps_kept z [] sol steps = record { solution = sol; value_down = le_refl (value z); within = λ j e. e; bounded = omega arith }
-  steps_kept z (next ∷ more) sol steps =
-      let k = step_kept z sol next (steps.0) in
-      let r = steps_kept next more k.solution (steps.1) in
+  steps_kept z (next ∷ earlier) sol steps =
+      let r = steps_kept z earlier sol (steps.1) in
+      let k = step_kept (newest_point z earlier) r.solution next (steps.0) in
       let b = r.bounded in
       let c = k.smaller in
-      record { solution = r.solution; value_down = le_trans r.value_down k.value_down; within = λ j e. r.within j (k.within j e); bounded = omega arith }
+      record { solution = k.solution; value_down = le_trans k.value_down r.value_down; within = λ j e. k.within j (r.within j e); bounded = omega arith }
 
-  ends_by : (k : ℕ) (z : List ℚ) → measure f z ≤ k → IsSolution f z → ((r : List ℚ) → ¬ (IsFormRay f r)) → (points : List (List ℚ)) × AreShrinkSteps n f z points × IsStationary f (last_point z points)
+  -- steps from the end of a step, with that step before them
+  newest_after : (z next : List ℚ) (points : List (List ℚ)) → newest_point z (points ++ next ∷ []) ≡ newest_point next points
+  newest_after z next [] = refl
+  newest_after z next (p ∷ points) = refl
+
+  steps_after : (z next : List ℚ) (points : List (List ℚ)) → IsShrinkStep n f z next → AreShrinkSteps n f next points → AreShrinkSteps n f z (points ++ next ∷ [])
+  steps_after z next [] step steps = (step, tt)
+  steps_after z next (p ∷ points) step steps =
+      (subst (λ t. IsShrinkStep n f t p) (sym (newest_after z next points)) (steps.0), steps_after z next points step (steps.1))
+
+  ends_by : (k : ℕ) (z : List ℚ) → measure f z ≤ k → IsSolution f z → ((r : List ℚ) → ¬ (IsFormRay f r)) → (points : List (List ℚ)) × AreShrinkSteps n f z points × IsStationary f (newest_point z points)
   ends_by zero z b sol rayless = ⊎_elim (λ h. ([], tt, h)) (λ h. absurd (let c = (step_kept z sol h.0 h.1).smaller in omega arith)) (step_or_stationary z sol rayless)
   ends_by (suc k) z b sol rayless = ⊎_elim (λ h. ([], tt, h))
-      (λ h. let kept = step_kept z sol h.0 h.1 in let c = kept.smaller in let r = ends_by k h.0 (omega arith) kept.solution rayless in (h.0 ∷ r.0, (h.1, r.1), r.2))
+      (λ h. let kept = step_kept z sol h.0 h.1 in let c = kept.smaller in let r = ends_by k h.0 (omega arith) kept.solution rayless in
+      (r.0 ++ h.0 ∷ [], steps_after z h.0 r.0 h.1 r.1, subst (IsStationary f) (sym (newest_after z h.0 r.0)) r.2))
       (step_or_stationary z sol rayless)
 
-  pub steps_end : (z : List ℚ) → IsSolution f z → ((r : List ℚ) → ¬ (IsFormRay f r)) → (points : List (List ℚ)) × AreShrinkSteps n f z points × IsStationary f (last_point z points)
+  pub steps_end : (z : List ℚ) → IsSolution f z → ((r : List ℚ) → ¬ (IsFormRay f r)) → (points : List (List ℚ)) × AreShrinkSteps n f z points × IsStationary f (newest_point z points)
   steps_end z = ends_by (measure f z) z (omega arith)
+
+  -- ---- how many steps
+
+  no_empty_step : (z next : List ℚ) → IsSolution f z → IsShrinkStep n f z next → 1 ≤ length (support z)
+  no_empty_step z next sol step = by (support z) refl
+    where
+      nothing : (x : List ℚ) → length (support z) ≡ 0 → take (length (support z)) x ≡ zeros (length (support z))
+      nothing x e = subst (λ (k : ℕ). take k x ≡ zeros k) (sym e) refl
+
+      by : (s : List ℕ) → support z ≡ s → 1 ≤ length (support z)
+      by (j ∷ s) e = let a = ap length e in omega arith
+      by [] e = ⊎_elim (λ h. absurd (h.moving (nothing h.unknowns (ap length e)))) (λ h. let a = refuted_loses z sol next h in let b = ap length e in absurd (omega arith)) step
+
+  -- a step loses a place or is stationary
+  step_loses : (z next : List ℚ) → IsSolution f z → IsShrinkStep n f z next → IsStationary f next ⊎ (length (support next) < length (support z))
+  step_loses z next sol step = ⊎_elim
+      (λ h. ⊎_elim (λ k. inl (full_is_stationary z sol next h (k.0)))
+      (λ k. inr (subst (λ t. length (support t) < length (support z)) (sym h.end)
+      (loses_a_place n z (on_support n z h.unknowns) h.step (wide z sol) (length-way n f z is (wide z sol) definite h.unknowns h.solved) (direction_off n z h.unknowns) (k.0)))) h.capped)
+      (λ h. inr (refuted_loses z sol next h)) step
+
+  pub record Few (z : List ℚ) (points : List (List ℚ)) : Type 0 where
+    pub all : length points ≤ length (support z)
+    pub more : ¬ (IsStationary f (newest_point z points)) → length points + length (support (newest_point z points)) ≤ length (support z)
+
+  pub few_steps : (z : List ℚ) (points : List (List ℚ)) → IsSolution f z → AreShrinkSteps n f z points → Few z points
+  few_steps z [] sol steps = record { all = omega arith; more = λ h. omega arith }
+  few_steps z (next ∷ earlier) sol steps =
+      let r = few_steps z earlier sol (steps.1) in
+      let u = (steps_kept z earlier sol (steps.1)).solution in
+      let a = r.more (λ h. stationary_has_no_step (newest_point z earlier) u next h (steps.0)) in
+      let b = no_empty_step (newest_point z earlier) next u (steps.0) in
+      record {
+        all = omega arith;
+        more = λ h. ⊎_elim (λ s. absurd (h s)) (λ l. omega arith) (step_loses (newest_point z earlier) next u (steps.0));
+      }

@@ -5,4 +5,5 @@ pub mod Directions
 pub mod Moves
 pub mod Rayless
 pub mod Ends
+pub mod OneStep
 mod WorkedShrink

@@ -1,5 +1,5 @@
 -- A worked shrink, by computing: (x + y - 2)^2 from (1, 0), whose support is the first column alone, goes to (2, 0), which is stationary.
-use Rattle.std.specs.Prelude.{◌≡◌, ℕ, zero, suc, pos, neg_ℤ, List, [], ◌∷◌}
+use Rattle.std.specs.Prelude.{◌≡◌, zero, suc, pos, neg_ℤ, List, [], ◌∷◌}
 use Rattle.std.proofs.Common.{refl, sym, ◌∙◌, ap, subst, inl, inr}
 use Rattle.rational.specs.Divisors.{gcd_of}
 use Rattle.rational.specs.Rational.{ℚ, whole, ratio, neg_ℚ, reciprocal, same_ℚ, zero_ℚ, one_ℚ, ◌+ℚ◌, ◌*ℚ◌}
@@ -11,21 +11,9 @@ use Rattle.program_law.proofs.Numbers.{negative_below}
 use Rattle.exact_matrix.specs.Elimination.{pivot_row, with_pivot, freed, step, eliminated_from}
 use Rattle.exact_matrix.specs.EliminationAnswers.{row_of_pivot, Answer, Solution, Refutation}
 use Rattle.equational.specs.Form.{Form}
+use Rattle.face_descent.specs.Worked.{n, valley_form}
 use Rattle.face_descent.specs.Small.{small_answer, IsStationary}
 use Rattle.face_descent.specs.Step.{distance, on_support, moved, IsWithin, AreShrinkSteps}
-
-abbrev n : ℕ → ℚ
-n k = whole (pos k)
-
--- 2 x x / 2 + 2 x y + 2 y y / 2 - 4 x - 4 y + 4
-abbrev form : Form
-form = record {
-  matrix = [];
-  right = [];
-  quadratic = (n 2 ∷ n 2 ∷ []) ∷ (n 2 ∷ n 2 ∷ []) ∷ [];
-  cost = whole (neg_ℤ (pos 4)) ∷ whole (neg_ℤ (pos 4)) ∷ [];
-  constant = n 4;
-}
 
 abbrev start : List ℚ
 start = n 1 ∷ n 0 ∷ []
@@ -55,11 +43,11 @@ one_is_not_zero e = lt_irrefl zero_ℚ (subst (λ t. zero_ℚ <ℚ t) (heads e) 
     heads : {x y : ℚ} → x ∷ [] ≡ y ∷ [] → x ≡ y
     heads e = cc
 
-start_answer : small_answer form start ≡ Solution (n 1 ∷ [])
+start_answer : small_answer valley_form start ≡ Solution (n 1 ∷ [])
 unfolding ◌+ℚ◌ ◌*ℚ◌ neg_ℚ ratio gcd_of whole reciprocal pivot_row with_pivot freed step eliminated_from row_of_pivot
 start_answer = one _ _ (refl, refl)
 
-end_answer : small_answer form end ≡ Solution (n 0 ∷ [])
+end_answer : small_answer valley_form end ≡ Solution (n 0 ∷ [])
 unfolding ◌+ℚ◌ ◌*ℚ◌ neg_ℚ ratio gcd_of whole reciprocal pivot_row with_pivot freed step eliminated_from row_of_pivot
 end_answer = one _ _ (refl, refl)
 
@@ -77,7 +65,7 @@ no_zero zero h = absurd (lt_irrefl zero_ℚ (lt-le_trans (whole_positive 0) (lt_
 no_zero (suc zero) h = absurd (lt_irrefl zero_ℚ h)
 no_zero (suc (suc j)) h = absurd (lt_irrefl zero_ℚ h)
 
-shrinks : AreShrinkSteps 2 form start (end ∷ [])
+pub shrinks : AreShrinkSteps 2 valley_form start (end ∷ [])
 unfolding ratio gcd_of whole
 shrinks = (
   inl (record {
@@ -91,7 +79,7 @@ shrinks = (
   tt,
 )
 
-stationary : IsStationary form end
+pub stationary : IsStationary valley_form end
 unfolding ratio gcd_of whole
 stationary = record { unknowns = n 0 ∷ []; solved = end_answer; still = refl }
 

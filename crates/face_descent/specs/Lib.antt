@@ -1,2 +1,4 @@
 pub mod Small
 pub mod Step
+pub mod Operations
+pub mod Worked

@@ -64,15 +64,15 @@ pub record IsRefutedStep (n : ℕ) (f : Form) (z next : List ℚ) : Type 0 where
 abbrev pub IsShrinkStep : ℕ → Form → List ℚ → List ℚ → Type 0
 IsShrinkStep n f z next = IsSolvedStep n f z next ⊎ IsRefutedStep n f z next
 
--- each of the points is a shrink step from the one before it, the first of them from z
+-- the newest of the points that were reached from z, the newest first, and z where there is none
+abbrev pub newest_point : List ℚ → List (List ℚ) → List ℚ
+newest_point z [] = z
+newest_point z (next ∷ earlier) = next
+
+-- the points that a list of shrink steps from z reaches, the newest first: each is a step from the one before it, the first from z
 abbrev pub AreShrinkSteps : ℕ → Form → List ℚ → List (List ℚ) → Type 0
 AreShrinkSteps n f z [] = Unit {0}
-AreShrinkSteps n f z (next ∷ more) = IsShrinkStep n f z next × AreShrinkSteps n f next more
-
--- the last of the points, and z where there is none
-abbrev pub last_point : List ℚ → List (List ℚ) → List ℚ
-last_point z [] = z
-last_point z (next ∷ more) = last_point next more
+AreShrinkSteps n f z (next ∷ earlier) = IsShrinkStep n f (newest_point z earlier) next × AreShrinkSteps n f z earlier
 
 -- whether an answer is a solution whose first k entries are 0
 abbrev pub is_still : ℕ → Answer → Bool

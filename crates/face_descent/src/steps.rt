@@ -1,6 +1,6 @@
 //! The laws of a shrink step.
 
-ghost use Rattle.std.specs.Prelude.{◌≡◌, ◌<◌, ◌≤◌, ℕ, All, List, length};
+ghost use Rattle.std.specs.Prelude.{◌≡◌, ◌<◌, ◌≤◌, ◌↔◌, ℕ, All, List, [], Option, Some, None, length};
 ghost use Rattle.rational.specs.Rational.{ℚ, one_ℚ, zero_ℚ, neg_ℚ, ◌+ℚ◌, ◌*ℚ◌};
 ghost use Rattle.rational.specs.Order.{◌<ℚ◌, ◌≤ℚ◌};
 ghost use Rattle.rational.specs.Sums.{entry};
@@ -9,7 +9,8 @@ ghost use Rattle.exact_matrix.specs.EliminationAnswers.{Refutation, Solution};
 ghost use Rattle.equational.specs.Form.{Form};
 ghost use Rattle.equational.specs.Solutions.{IsForm, IsFormRay, IsNotNegative, IsSolution};
 ghost use Rattle.face_descent.specs.Small.{IsStationary, small_answer, support};
-ghost use Rattle.face_descent.specs.Step.{IsCapped, IsNearest, IsTurned, IsWithin, moved, on_support};
+ghost use Rattle.face_descent.specs.Step.{IsCapped, IsNearest, IsShrinkStep, IsTurned, IsWithin, moved, on_support};
+ghost use Rattle.face_descent.specs.Operations.{nearer, nearest_zero, shrink_ops, turned};
 
 /// Along the direction of a solution the equations hold, the slope is minus the form, and the value does
 /// not rise as far as 1; the point at 1 is stationary.
@@ -42,4 +43,15 @@ pub fn moves_keep_solutions()
     ensures positive { (z d : List ℚ) (s : ℚ) → All IsNotNegative z → ((j : ℕ) → entry z j ≡ zero_ℚ → entry d j ≡ zero_ℚ) → IsNearest z d s → zero_ℚ <ℚ s }
     ensures support { (n : ℕ) (z d : List ℚ) (s : ℚ) → length z ≡ n → length d ≡ n → ((j : ℕ) → entry z j ≡ zero_ℚ → entry d j ≡ zero_ℚ) → length (support (moved z d s)) ≤ length (support z) }
     ensures lost { (n : ℕ) (z d : List ℚ) (s : ℚ) → length z ≡ n → length d ≡ n → ((j : ℕ) → entry z j ≡ zero_ℚ → entry d j ≡ zero_ℚ) → IsNearest z d s → length (support (moved z d s)) < length (support z) }
+{}
+
+/// A point has at most one shrink step. The nearest zero, and the smaller of it and 1, are what the calculation of the face
+/// computes, and so is the direction of a refutation; at a stationary point it moves by no operation.
+pub fn shrink_steps_are_determined()
+    ensures one { (n : ℕ) (f : Form) (z one other : List ℚ) → IsShrinkStep n f z one → IsShrinkStep n f z other → one ≡ other }
+    ensures nearest { (z d : List ℚ) (s : ℚ) → length z ≡ length d → IsNearest z d s ↔ (nearest_zero z d ≡ Some s) }
+    ensures none { (z d : List ℚ) → length z ≡ length d → nearest_zero z d ≡ None → (j : ℕ) → ¬ (entry d j <ℚ zero_ℚ) }
+    ensures capped { (z d : List ℚ) (s : ℚ) → length z ≡ length d → IsCapped z d s ↔ (s ≡ nearer one_ℚ (nearest_zero z d)) }
+    ensures direction { (v : ℚ) (part d : List ℚ) → IsTurned v part d → d ≡ turned v part }
+    ensures still { (n : ℕ) (f : Form) (z : List ℚ) → IsStationary f z → shrink_ops n z (small_answer f z) ≡ [] }
 {}

@@ -1,6 +1,6 @@
 //! The laws of lists of shrink steps.
 
-ghost use Rattle.std.specs.Prelude.{◌≡◌, ◌<◌, ◌≤◌, ◌+◌, ◌⊎◌, ℕ, List, length};
+ghost use Rattle.std.specs.Prelude.{◌≡◌, ◌<◌, ◌≤◌, ◌+◌, ◌⊎◌, ℕ, List, [], ◌∷◌, length};
 ghost use Rattle.rational.specs.Rational.{ℚ, one_ℚ, zero_ℚ};
 ghost use Rattle.rational.specs.Order.{◌<ℚ◌, ◌≤ℚ◌};
 ghost use Rattle.rational.specs.Sums.{entry};
@@ -8,7 +8,8 @@ ghost use Rattle.rational.specs.Vectors.{IsSemidefinite, quadratic};
 ghost use Rattle.equational.specs.Form.{Form};
 ghost use Rattle.equational.specs.Solutions.{IsForm, IsFormRay, IsSolution};
 ghost use Rattle.face_descent.specs.Small.{IsStationary, support};
-ghost use Rattle.face_descent.specs.Step.{AreShrinkSteps, IsRefutedStep, IsShrinkStep, IsSolvedStep, last_point, measure};
+ghost use Rattle.face_descent.specs.Step.{AreShrinkSteps, IsRefutedStep, IsShrinkStep, IsSolvedStep, newest_point, measure};
+ghost use Rattle.face_descent.specs.Worked.{n, valley_form};
 
 /// A shrink step goes from a solution to a solution, with a value and a support not above those before it.
 /// A full step of a solution is stationary at once; one cut short loses a place of the support, and so does
@@ -27,12 +28,14 @@ pub fn shrink_steps_fall()
 {}
 
 /// A list of shrink steps from a solution ends at a solution, with a value and a support not above those at
-/// its start, and has no more steps than the measure there. Where the form has no ray, some list ends at a
-/// stationary point.
+/// its start, and has no more steps than the support there has places. Where the form has no ray, some list
+/// ends at a stationary point. A worked one: (x + y - 2)^2 shrinks from (1, 0) to (2, 0), on the first column alone.
 pub fn shrink_steps_end()
-    ensures solution { (n : ℕ) (f : Form) (z : List ℚ) (points : List (List ℚ)) → IsForm n f → IsSemidefinite n f.quadratic → IsSolution f z → AreShrinkSteps n f z points → IsSolution f (last_point z points) }
-    ensures value { (n : ℕ) (f : Form) (z : List ℚ) (points : List (List ℚ)) → IsForm n f → IsSemidefinite n f.quadratic → IsSolution f z → AreShrinkSteps n f z points → quadratic f.quadratic f.cost f.constant (last_point z points) ≤ℚ quadratic f.quadratic f.cost f.constant z }
-    ensures support { (n : ℕ) (f : Form) (z : List ℚ) (points : List (List ℚ)) → IsForm n f → IsSemidefinite n f.quadratic → IsSolution f z → AreShrinkSteps n f z points → (j : ℕ) → entry z j ≡ zero_ℚ → entry (last_point z points) j ≡ zero_ℚ }
-    ensures bounded { (n : ℕ) (f : Form) (z : List ℚ) (points : List (List ℚ)) → IsForm n f → IsSemidefinite n f.quadratic → IsSolution f z → AreShrinkSteps n f z points → measure f (last_point z points) + length points ≤ measure f z }
-    ensures ends { (n : ℕ) (f : Form) (z : List ℚ) → IsForm n f → IsSemidefinite n f.quadratic → IsSolution f z → ((r : List ℚ) → ¬ (IsFormRay f r)) → (points : List (List ℚ)) × AreShrinkSteps n f z points × IsStationary f (last_point z points) }
+    ensures solution { (n : ℕ) (f : Form) (z : List ℚ) (points : List (List ℚ)) → IsForm n f → IsSemidefinite n f.quadratic → IsSolution f z → AreShrinkSteps n f z points → IsSolution f (newest_point z points) }
+    ensures value { (n : ℕ) (f : Form) (z : List ℚ) (points : List (List ℚ)) → IsForm n f → IsSemidefinite n f.quadratic → IsSolution f z → AreShrinkSteps n f z points → quadratic f.quadratic f.cost f.constant (newest_point z points) ≤ℚ quadratic f.quadratic f.cost f.constant z }
+    ensures support { (n : ℕ) (f : Form) (z : List ℚ) (points : List (List ℚ)) → IsForm n f → IsSemidefinite n f.quadratic → IsSolution f z → AreShrinkSteps n f z points → (j : ℕ) → entry z j ≡ zero_ℚ → entry (newest_point z points) j ≡ zero_ℚ }
+    ensures bounded { (n : ℕ) (f : Form) (z : List ℚ) (points : List (List ℚ)) → IsForm n f → IsSemidefinite n f.quadratic → IsSolution f z → AreShrinkSteps n f z points → measure f (newest_point z points) + length points ≤ measure f z }
+    ensures few { (n : ℕ) (f : Form) (z : List ℚ) (points : List (List ℚ)) → IsForm n f → IsSemidefinite n f.quadratic → IsSolution f z → AreShrinkSteps n f z points → length points ≤ length (support z) }
+    ensures ends { (n : ℕ) (f : Form) (z : List ℚ) → IsForm n f → IsSemidefinite n f.quadratic → IsSolution f z → ((r : List ℚ) → ¬ (IsFormRay f r)) → (points : List (List ℚ)) × AreShrinkSteps n f z points × IsStationary f (newest_point z points) }
+    ensures worked { AreShrinkSteps 2 valley_form (n 1 ∷ n 0 ∷ []) ((n 2 ∷ n 0 ∷ []) ∷ []) × IsStationary valley_form (n 2 ∷ n 0 ∷ []) }
 {}

@@ -12,7 +12,8 @@ use Rattle.linear_simplex.specs.Chain.{IsChain, IsSpent}
 use Rattle.linear_simplex.proofs.Steps.{short, spent_short}
 use Rattle.equational.specs.Form.{Form}
 use Rattle.equational.specs.Solutions.{IsForm, IsSolution}
-use Rattle.quad_solve.specs.Problems.{feasible_problem, ray_problem, price_problem, support}
+use Rattle.face_descent.specs.Small.{support}
+use Rattle.quad_solve.specs.Problems.{feasible_problem, ray_problem, price_problem}
 use Rattle.quad_solve.proofs.Doubled.{length-places}
 use Rattle.quad_solve.proofs.Directions.{feasible_is_a_problem, rays_form_a_problem}
 use Rattle.quad_solve.proofs.Descents.{prices_form_a_problem}

@@ -9,55 +9,56 @@ use Rattle.rational.specs.Sums.{entry}
 use Rattle.rational.specs.Vectors.{dot, pick, put_at, rows_dot, combine, HasColumns}
 use Rattle.rational.proofs.Vectors.{length-combine, dot-append, dot-add_right, dot_comm, transpose, same_by_dot}
 use Rattle.rational.proofs.Supports.{length-pick, length-put_at, dot-pick}
-use Rattle.quad_solve.specs.Problems.{places, doubled, difference}
+use Rattle.face_descent.specs.Small.{support_from}
+use Rattle.quad_solve.specs.Problems.{doubled, difference}
 use Rattle.quad_solve.proofs.Lists.{dot-negated, length-negated, length-taken}
 
 -- ---- supports
 
-pub length-places : (k : ℕ) (z : List ℚ) → length (places k z) ≤ length z
+pub length-places : (k : ℕ) (z : List ℚ) → length (support_from k z) ≤ length z
 length-places k [] = omega arith
 length-places k (x ∷ z) = by (same_fields x zero_ℚ) (length-places (suc k) z)
   where
-    by : (b : Bool) → length (places (suc k) z) ≤ length z → length (if b then places (suc k) z else k ∷ places (suc k) z) ≤ length (x ∷ z)
+    by : (b : Bool) → length (support_from (suc k) z) ≤ length z → length (if b then support_from (suc k) z else k ∷ support_from (suc k) z) ≤ length (x ∷ z)
     by true h = omega arith
     by false h = omega arith
 
 -- all of them are at least the place of the first entry
-pub from_first : (k : ℕ) (z : List ℚ) → All (λ j. k ≤ j) (places k z)
+pub from_first : (k : ℕ) (z : List ℚ) → All (λ j. k ≤ j) (support_from k z)
 from_first k [] = All-nil (λ j. k ≤ j)
 from_first k (x ∷ z) = by (same_fields x zero_ℚ) (λ i d l. omega (arith, from_first (suc k) z i d l))
   where
-    by : (b : Bool) → All (λ j. k ≤ j) (places (suc k) z) → All (λ j. k ≤ j) (if b then places (suc k) z else k ∷ places (suc k) z)
+    by : (b : Bool) → All (λ j. k ≤ j) (support_from (suc k) z) → All (λ j. k ≤ j) (if b then support_from (suc k) z else k ∷ support_from (suc k) z)
     by true h = h
-    by false h = All-cons (λ j. k ≤ j) k (places (suc k) z) (omega arith) h
+    by false h = All-cons (λ j. k ≤ j) k (support_from (suc k) z) (omega arith) h
 
 -- where an entry is 0, its place is none of them
-pub off_places : (k : ℕ) (z : List ℚ) (i j : ℕ) → j ≡ k + i → entry z i ≡ zero_ℚ → All (λ m. m ≢ j) (places k z)
+pub off_places : (k : ℕ) (z : List ℚ) (i j : ℕ) → j ≡ k + i → entry z i ≡ zero_ℚ → All (λ m. m ≢ j) (support_from k z)
 off_places k [] i j e h = All-nil (λ m. m ≢ j)
 off_places k (x ∷ z) zero j e h = by (same_fields x zero_ℚ) refl (λ i d l. omega (arith, from_first (suc k) z i d l, e))
   where
-    by : (b : Bool) → same_fields x zero_ℚ ≡ b → All (λ m. m ≢ j) (places (suc k) z) → All (λ m. m ≢ j) (if b then places (suc k) z else k ∷ places (suc k) z)
+    by : (b : Bool) → same_fields x zero_ℚ ≡ b → All (λ m. m ≢ j) (support_from (suc k) z) → All (λ m. m ≢ j) (if b then support_from (suc k) z else k ∷ support_from (suc k) z)
     by true t r = r
     by false t r = absurd (differ_of_same_fields x zero_ℚ t h)
 off_places k (x ∷ z) (suc i) j e h = by (same_fields x zero_ℚ) (off_places (suc k) z i j (omega arith) h)
   where
-    by : (b : Bool) → All (λ m. m ≢ j) (places (suc k) z) → All (λ m. m ≢ j) (if b then places (suc k) z else k ∷ places (suc k) z)
+    by : (b : Bool) → All (λ m. m ≢ j) (support_from (suc k) z) → All (λ m. m ≢ j) (if b then support_from (suc k) z else k ∷ support_from (suc k) z)
     by true r = r
-    by false r = All-cons (λ m. m ≢ j) k (places (suc k) z) (omega arith) r
+    by false r = All-cons (λ m. m ≢ j) k (support_from (suc k) z) (omega arith) r
 
 -- what holds of all entries at the places holds where an entry isn't 0
-pub on_places : (P : ℚ → Type 0) (u : List ℚ) (k : ℕ) (z : List ℚ) (i j : ℕ) → j ≡ k + i → All P (pick (places k z) u) → entry z i ≢ zero_ℚ → P (entry u j)
+pub on_places : (P : ℚ → Type 0) (u : List ℚ) (k : ℕ) (z : List ℚ) (i j : ℕ) → j ≡ k + i → All P (pick (support_from k z) u) → entry z i ≢ zero_ℚ → P (entry u j)
 on_places P u k [] i j e h n = absurd (n refl)
 on_places P u k (x ∷ z) zero j e h n = by (same_fields x zero_ℚ) refl h
   where
-    by : (b : Bool) → same_fields x zero_ℚ ≡ b → All P (pick (if b then places (suc k) z else k ∷ places (suc k) z) u) → P (entry u j)
+    by : (b : Bool) → same_fields x zero_ℚ ≡ b → All P (pick (if b then support_from (suc k) z else k ∷ support_from (suc k) z) u) → P (entry u j)
     by true t r = absurd (n (same_fields_lem x zero_ℚ t))
-    by false t r = let s : k ≡ j = omega (arith, e) in subst (λ (i : ℕ). P (entry u i)) s (All-head P (entry u k) (pick (places (suc k) z) u) r)
+    by false t r = let s : k ≡ j = omega (arith, e) in subst (λ (i : ℕ). P (entry u i)) s (All-head P (entry u k) (pick (support_from (suc k) z) u) r)
 on_places P u k (x ∷ z) (suc i) j e h n = by (same_fields x zero_ℚ) (λ r. on_places P u (suc k) z i j (omega arith) r n) h
   where
-    by : (b : Bool) → (All P (pick (places (suc k) z) u) → P (entry u j)) → All P (pick (if b then places (suc k) z else k ∷ places (suc k) z) u) → P (entry u j)
+    by : (b : Bool) → (All P (pick (support_from (suc k) z) u) → P (entry u j)) → All P (pick (if b then support_from (suc k) z else k ∷ support_from (suc k) z) u) → P (entry u j)
     by true f r = f r
-    by false f r = f (All-tail P (entry u k) (pick (places (suc k) z) u) r)
+    by false f r = f (All-tail P (entry u k) (pick (support_from (suc k) z) u) r)
 
 -- ---- doubled rows
 

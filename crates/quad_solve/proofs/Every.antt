@@ -1,9 +1,9 @@
 -- Each direction that leads down comes from a solution of the price problem.
-use Rattle.std.proofs.Common.{◌≡◌, ◌≢◌, refl, ◌∙◌, ap, subst, ℕ, zero, suc, ◌+◌, ◌<◌, ◌⊎◌, inl, inr, ⊎_elim, Bool, true, false, List, [], ◌∷◌, ◌++◌, length, map, if◌then◌else◌, arith}
+use Rattle.std.proofs.Common.{◌≡◌, ◌≢◌, refl, ◌∙◌, ap, subst, ℕ, zero, suc, ◌+◌, ◌⊎◌, inl, inr, ⊎_elim, Bool, true, false, List, [], ◌∷◌, ◌++◌, length, map, if◌then◌else◌, arith}
 use Rattle.std.specs.Prelude.{take, drop, All}
 use Rattle.std.specs.List.{AllPairs}
 use Rattle.std.proofs.lemmas.List.{length-append}
-use Rattle.std.proofs.lemmas.List.Elements.{All-nil, All-cons, All-append, All-head, All-tail}
+use Rattle.std.proofs.lemmas.List.Elements.{All-nil, All-cons, All-append}
 use Rattle.std.proofs.lemmas.List.Kept.{AllPairs-cons}
 use Rattle.algebra.proofs.Polynomial.{minus, ◌⊕◌, ◌≼◌, ◌≐◌, lit}
 use Rattle.algebra.proofs.Certificate.{prove, given, ◌⇐◌}
@@ -19,7 +19,9 @@ use Rattle.rational.proofs.Supports.{length-pick, put_at-pick}
 use Rattle.linear_basis.specs.Problem as linear
 use Rattle.equational.specs.Form.{Form}
 use Rattle.equational.specs.Solutions.{IsForm, IsSolution}
-use Rattle.quad_solve.specs.Problems.{price_problem, price_rows, slope, support, places, doubled, direction, difference}
+use Rattle.face_descent.specs.Small.{support, support_from}
+use Rattle.face_descent.proofs.Supports.{off_support, support_below}
+use Rattle.quad_solve.specs.Problems.{price_problem, price_rows, slope, doubled, direction, difference}
 use Rattle.quad_solve.specs.Steps.{LeadsDown}
 use Rattle.quad_solve.proofs.Lists.{dot-negated}
 use Rattle.quad_solve.proofs.Doubled.{rows_dot-doubled, from_first}
@@ -96,20 +98,6 @@ splits (x ∷ d) = by (split x) (splits d)
         none zero h = s.none h
         none (suc j) h = m.none j h
 
--- what has no place in the list of a support is 0
-pub off_support : (k : ℕ) (z : List ℚ) (i j : ℕ) → j ≡ k + i → All (λ m. m ≢ j) (places k z) → entry z i ≡ zero_ℚ
-off_support k [] i j e h = refl
-off_support k (x ∷ z) zero j e h = by (same_fields x zero_ℚ) refl h
-  where
-    by : (b : Bool) → same_fields x zero_ℚ ≡ b → All (λ m. m ≢ j) (if b then places (suc k) z else k ∷ places (suc k) z) → x ≡ zero_ℚ
-    by true t r = Rattle.rational.specs.Order.same_fields_lem x zero_ℚ t
-    by false t r = absurd (All-head (λ m. m ≢ j) k (places (suc k) z) r (omega (arith, e)))
-off_support k (x ∷ z) (suc i) j e h = by (same_fields x zero_ℚ) (off_support (suc k) z i j (omega arith)) h
-  where
-    by : (b : Bool) → (All (λ m. m ≢ j) (places (suc k) z) → entry z i ≡ zero_ℚ) → All (λ m. m ≢ j) (if b then places (suc k) z else k ∷ places (suc k) z) → entry z i ≡ zero_ℚ
-    by true f r = f r
-    by false f r = f (All-tail (λ m. m ≢ j) k (places (suc k) z) r)
-
 all_pick : (s : List ℕ) (u : List ℚ) → All (λ x. zero_ℚ ≤ℚ x) u → All (λ x. zero_ℚ ≤ℚ x) (pick s u)
 all_pick [] u h = All-nil (λ x. zero_ℚ ≤ℚ x)
 all_pick (j ∷ s) u h = All-cons (λ x. zero_ℚ ≤ℚ x) (entry u j) (pick s u) (entry_nonneg u h j) (all_pick s u h)
@@ -126,29 +114,21 @@ dropped_front [] v (suc n) e = absurd (omega arith)
 dropped_front (x ∷ u) v zero e = absurd (omega arith)
 dropped_front (x ∷ u) v (suc n) e = dropped_front u v n (omega arith)
 
--- the places of a support lie within the list, and rise
-pub within : (k : ℕ) (z : List ℚ) → All (λ j. j < k + length z) (places k z)
-within k [] = All-nil (λ j. j < k + 0)
-within k (x ∷ z) = by (same_fields x zero_ℚ) (λ i d l. omega (arith, within (suc k) z i d l))
-  where
-    by : (b : Bool) → All (λ j. j < k + length (x ∷ z)) (places (suc k) z) → All (λ j. j < k + length (x ∷ z)) (if b then places (suc k) z else k ∷ places (suc k) z)
-    by true h = h
-    by false h = All-cons (λ j. j < k + length (x ∷ z)) k (places (suc k) z) (omega arith) h
-
-differ : (k : ℕ) (z : List ℚ) → AllPairs (λ a b. a ≢ b) (places k z)
+-- the places of a support differ
+differ : (k : ℕ) (z : List ℚ) → AllPairs (λ a b. a ≢ b) (support_from k z)
 differ k [] = λ i j d l m. absurd (omega (arith, m))
 differ k (x ∷ z) = by (same_fields x zero_ℚ) (λ i d l. omega (arith, from_first (suc k) z i d l)) (differ (suc k) z)
   where
-    by : (b : Bool) → All (λ j. k ≢ j) (places (suc k) z) → AllPairs (λ a b. a ≢ b) (places (suc k) z) → AllPairs (λ a b. a ≢ b) (if b then places (suc k) z else k ∷ places (suc k) z)
+    by : (b : Bool) → All (λ j. k ≢ j) (support_from (suc k) z) → AllPairs (λ a b. a ≢ b) (support_from (suc k) z) → AllPairs (λ a b. a ≢ b) (if b then support_from (suc k) z else k ∷ support_from (suc k) z)
     by true h r = r
-    by false h r = AllPairs-cons (λ a b. a ≢ b) k (places (suc k) z) h r
+    by false h r = AllPairs-cons (λ a b. a ≢ b) k (support_from (suc k) z) h r
 
 module _ (n : ℕ) (f : Form) (z d : List ℚ) (form : IsForm n f) (at : IsSolution f z) (lead : LeadsDown f z d) (m : Splits d) where
   off : (j : ℕ) → All (λ k. k ≢ j) (support z) → entry m.downs j ≡ zero_ℚ
-  off j h = m.none j (⊎_elim (λ l. l) (λ b. absurd (lt_irrefl zero_ℚ (subst (λ t. zero_ℚ <ℚ t) (off_support 0 z j j (omega arith) h) (lead.lessens j b)))) (le_or_lt zero_ℚ (entry d j)))
+  off j h = m.none j (⊎_elim (λ l. l) (λ b. absurd (lt_irrefl zero_ℚ (subst (λ t. zero_ℚ <ℚ t) (off_support z j h) (lead.lessens j b)))) (le_or_lt zero_ℚ (entry d j)))
 
   put : put_at (length f.cost) (support z) (pick (support z) m.downs) ≡ m.downs
-  put = put_at-pick (length f.cost) (support z) m.downs (differ 0 z) (λ i d l. omega (arith, within 0 z i d l, at.width)) (m.downs_size ∙ lead.size) off
+  put = put_at-pick (length f.cost) (support z) m.downs (differ 0 z) (support_below (length f.cost) z at.width) (m.downs_size ∙ lead.size) off
 
   back : difference (length f.cost) (support z) (m.ups ++ pick (support z) m.downs) ≡ d
   back =

@@ -1,4 +1,5 @@
 pub mod Lists
+pub mod Decided
 pub mod Directions
 pub mod Doubled
 pub mod Descents
@@ -9,4 +10,18 @@ pub mod Counts
 pub mod Lengths
 pub mod Every
 pub mod Few
+pub mod WalkSteps
+pub mod WalkLengths
+pub mod RegionAnswers
+pub mod SomeAnswer
+pub mod RegionRays
+pub mod SpentSites
+pub mod PriceLength
+pub mod OneAnswer
+pub mod ValueOps
+pub mod Tested
+mod WorkedValley
+mod WorkedHill
+mod WorkedSlope
+mod WorkedPortfolio
 pub mod Worked

@@ -18,7 +18,8 @@ use Rattle.rational.proofs.Forms.{expansion, form_comm, null_of_form}
 use Rattle.equational.specs.Form.{Form}
 use Rattle.equational.specs.Solutions.{IsForm, IsSolution, IsFormRay}
 use Rattle.quad_solve.specs.Problems.{slope}
-use Rattle.quad_solve.specs.Steps.{LeadsDown, IsPriceStep, curvature, height, moved}
+use Rattle.face_descent.specs.Step.{moved}
+use Rattle.quad_solve.specs.Steps.{LeadsDown, IsPriceStep, curvature, height}
 use Rattle.quad_solve.proofs.Lists.{some_below}
 use Rattle.quad_solve.proofs.Descents.{entry_nonneg}
 
@@ -58,16 +59,16 @@ module _ (n : ℕ) (f : Form) (z d : List ℚ) (form : IsForm n f) (semi : IsSem
       wide : length z ≡ length (scale s d)
       wide = same_size ∙ sym (length-scale s d)
 
-      pub step_solves : IsSolution f (moved z s d)
+      pub step_solves : IsSolution f (moved z d s)
       step_solves = record {
         width = length-add_each z (scale s d) wide ∙ at.width;
         equal = rows_dot-add f.matrix z (scale s d) wide ∙ ap (λ u. add_each u (rows_dot f.matrix (scale s d))) at.equal
             ∙ ap (add_each f.right) (rows_dot-scale f.matrix s d ∙ ap (scale s) (down.equal ∙ ap zeros (sym form.right)))
             ∙ add_no_direction f.right s;
-        not_negative = All-from_get_or (λ x. zero_ℚ ≤ℚ x) (moved z s d) zero_ℚ (λ i l. subst (λ x. zero_ℚ ≤ℚ x) (sym (entry-moved i)) (kept i (le_or_lt zero_ℚ (entry d i))));
+        not_negative = All-from_get_or (λ x. zero_ℚ ≤ℚ x) (moved z d s) zero_ℚ (λ i l. subst (λ x. zero_ℚ ≤ℚ x) (sym (entry-moved i)) (kept i (le_or_lt zero_ℚ (entry d i))));
       }
         where
-          entry-moved : (i : ℕ) → entry (moved z s d) i ≡ entry z i +ℚ s *ℚ entry d i
+          entry-moved : (i : ℕ) → entry (moved z d s) i ≡ entry z i +ℚ s *ℚ entry d i
           entry-moved i = entry-add_each z (scale s d) i wide ∙ ap (λ t. entry z i +ℚ t) (entry-scale s d i)
 
           kept : (i : ℕ) → (zero_ℚ ≤ℚ entry d i) ⊎ (entry d i <ℚ zero_ℚ) → zero_ℚ ≤ℚ (entry z i +ℚ s *ℚ entry d i)
@@ -76,9 +77,9 @@ module _ (n : ℕ) (f : Form) (z d : List ℚ) (form : IsForm n f) (semi : IsSem
               (λ s z d. lit 0 ≼ z ⊕ s ⊗ d ⇐ given (lit 0 ≼ z) ⊞ (given (lit 0 ≼ s) ⊠ given (lit 0 ≼ d))) refl
               (entry_nonneg z at.not_negative i) (lt_le zero_ℚ s step_goes) a
 
-      pub step_falls : height f (moved z s d) <ℚ height f z
+      pub step_falls : height f (moved z d s) <ℚ height f z
       step_falls =
-          prove ordered_rationals (height f (moved z s d) ∷ height f z ∷ s ∷ dot (slope f z) d ∷ curvature f d ∷ half ∷ [])
+          prove ordered_rationals (height f (moved z d s) ∷ height f z ∷ s ∷ dot (slope f z) d ∷ curvature f d ∷ half ∷ [])
           (λ a b s g k h. a ≺ b
           ⇐ given (a ≐ b ⊕ s ⊗ g ⊕ h ⊗ (s ⊗ s) ⊗ k) ⊞ scaled s g (minus (lit 1)) ⊞ (given (lit 0 ≼ h ⊗ s) ⊠ given (s ⊗ k ≼ lit 1))
           ⊞ given (lit 0 ≺ h ⊗ s) ⊞ scaled s (h ⊗ lit 2) (lit 1))

@@ -18,11 +18,11 @@ use Rattle.linear_basis.proofs.Verdicts.{not_both}
 use Rattle.equational.specs.Form.{Form}
 use Rattle.equational.specs.Solutions.{IsForm}
 use Rattle.equational.specs.Optimal.{IsOptimality}
-use Rattle.quad_solve.specs.Problems.{price_problem, price_rows, price_multipliers, last_number, slope, support}
-use Rattle.quad_solve.specs.Steps.{IsStationaryBy}
-use Rattle.quad_solve.proofs.Lists.{dot-negated, length-negated, entry-negated, length-taken, with_last, front_all, back_all, over_is_scale}
+use Rattle.face_descent.specs.Small.{support, HasMultipliers}
+use Rattle.quad_solve.specs.Problems.{price_problem, price_rows, price_multipliers, last_number, slope}
+use Rattle.quad_solve.proofs.Lists.{entry-negated, length-taken, with_last, front_all, back_all, over_is_scale}
 use Rattle.quad_solve.proofs.Doubled.{combine-doubled, on_places}
-use Rattle.quad_solve.proofs.Descents.{entry_nonneg, wide_matrix, wide_prices, prices_form_a_problem}
+use Rattle.quad_solve.proofs.Descents.{entry_nonneg, wide_prices, prices_form_a_problem}
 
 all_negated : (u : List ℚ) → All (λ x. zero_ℚ ≤ℚ x) (map neg_ℚ u) → All (λ x. zero_ℚ ≤ℚ neg_ℚ x) u
 all_negated [] h = All-nil (λ x. zero_ℚ ≤ℚ neg_ℚ x)
@@ -111,13 +111,8 @@ module _ (n : ℕ) (f : Form) (z w : List ℚ) (form : IsForm n f) (farkas : lin
         ∙ divided_eq (dot y (column j f.matrix)) t (entry (slope f z) j) (reciprocal t) inverse (nonneg j) (nonpos j k);
   }
 
-  pub multipliers_stationary : IsStationaryBy f z (map neg_ℚ (price_multipliers f w))
-  multipliers_stationary = record {
-    size = length-negated (price_multipliers f w) ∙ multipliers_size;
-    on_support = λ j k. entry-combine (length f.cost) (map neg_ℚ (price_multipliers f w)) f.matrix j (wide_matrix n f form)
-        ∙ dot-negated (price_multipliers f w) (column j f.matrix)
-        ∙ ap neg_ℚ (sym (entry-combine n (price_multipliers f w) f.matrix j form.columns) ∙ multipliers_optimal.on_support j k);
-  }
+  pub multipliers_stationary : HasMultipliers n f z
+  multipliers_stationary = record { multipliers = price_multipliers f w; size = multipliers_size; same = multipliers_optimal.on_support }
 
 pub not_both_prices : (n : ℕ) (f : Form) (z x w : List ℚ) → IsForm n f → linear.IsSolution (price_problem f z) x → linear.IsFarkas (price_problem f z) w → ⊥
 not_both_prices n f z x w h s k = not_both (price_problem f z) x w (prices_form_a_problem n f z h) s k

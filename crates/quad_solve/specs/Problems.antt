@@ -1,11 +1,11 @@
 -- The feasible and the ray problem of a form, the price problem at a point of it, and what their solutions and Farkas vectors are read as.
-use Rattle.std.specs.Prelude.{ℕ, suc, ◌+◌, List, [], ◌∷◌, ◌++◌, length, map, take, drop, if◌then◌else◌}
+use Rattle.std.specs.Prelude.{ℕ, ◌+◌, List, [], ◌∷◌, ◌++◌, length, map, take, drop}
 use Rattle.rational.specs.Rational.{ℚ, zero_ℚ, one_ℚ, neg_ℚ, ◌/ℚ◌}
-use Rattle.rational.specs.Order.{same_fields}
 use Rattle.rational.specs.Sums.{entry}
 use Rattle.rational.specs.Vectors.{add_each, zeros, pick, put_at, gradient}
 use Rattle.linear_basis.specs.Problem.{Problem}
 use Rattle.equational.specs.Form.{Form}
+use Rattle.face_descent.specs.Small.{support}
 
 -- M z = r, over the form's columns
 abbrev pub feasible_problem : Form → Problem
@@ -19,15 +19,6 @@ ray_problem f =
       rows = f.matrix ++ (f.quadratic ++ map neg_ℚ f.cost ∷ []);
       right = zeros (length f.matrix) ++ (zeros (length f.quadratic) ++ one_ℚ ∷ []);
     }
-
--- the places of the entries that are not 0, where the first entry has the place k
-abbrev pub places : ℕ → List ℚ → List ℕ
-places k [] = []
-places k (x ∷ z) = if same_fields x zero_ℚ then places (suc k) z else k ∷ places (suc k) z
-
--- the support of a point: the places where it is not 0, in order
-abbrev pub support : List ℚ → List ℕ
-support z = places 0 z
 
 -- the gradient of the form at z, Q z + c
 abbrev pub slope : Form → List ℚ → List ℚ

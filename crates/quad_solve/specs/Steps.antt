@@ -1,9 +1,9 @@
--- Directions that lead down from a point of a form, price steps along them, and multipliers that make a point stationary.
-use Rattle.std.specs.Prelude.{◌≡◌, ◌≢◌, ℕ, List, length, ◌⊎◌, ◌↔◌}
+-- Directions that lead down from a point of a form, and price steps along them.
+use Rattle.std.specs.Prelude.{◌≡◌, ℕ, List, length, ◌⊎◌, ◌↔◌}
 use Rattle.rational.specs.Rational.{ℚ, zero_ℚ, one_ℚ, neg_ℚ, ◌+ℚ◌, ◌*ℚ◌}
 use Rattle.rational.specs.Order.{◌≤ℚ◌, ◌<ℚ◌}
 use Rattle.rational.specs.Sums.{entry}
-use Rattle.rational.specs.Vectors.{dot, add_each, scale, zeros, rows_dot, combine, quadratic}
+use Rattle.rational.specs.Vectors.{dot, zeros, rows_dot, quadratic}
 use Rattle.equational.specs.Form.{Form}
 use Rattle.quad_solve.specs.Problems.{slope}
 
@@ -22,10 +22,6 @@ pub record LeadsDown (f : Form) (z d : List ℚ) : Type 0 where
 abbrev pub curvature : Form → List ℚ → ℚ
 curvature f d = dot d (rows_dot f.quadratic d)
 
--- z + s d
-abbrev pub moved : List ℚ → ℚ → List ℚ → List ℚ
-moved z s d = add_each z (scale s d)
-
 -- a price step of length s along d: to the nearest zero or to the line's minimum 1 / d^T Q d, whichever is nearer. So no entry that d
 -- lessens falls below 0, s times the curvature is at most 1, and one of them is met: an entry that d lessens becomes 0, or s times
 -- the curvature is 1.
@@ -34,16 +30,6 @@ pub record IsPriceStep (f : Form) (z d : List ℚ) (s : ℚ) : Type 0 where
   pub minimum : (s *ℚ curvature f d) ≤ℚ one_ℚ
   pub met : ((j : ℕ) × (entry d j <ℚ zero_ℚ) × (entry z j +ℚ s *ℚ entry d j ≡ zero_ℚ)) ⊎ (s *ℚ curvature f d ≡ one_ℚ)
 
--- multipliers under which z is stationary: on the support of z, μ^T M is the gradient negated
-pub record IsStationaryBy (f : Form) (z μ : List ℚ) : Type 0 where
-  pub size : length μ ≡ length f.matrix
-  pub on_support : (j : ℕ) → entry z j ≢ zero_ℚ → entry (combine (length f.cost) μ f.matrix) j ≡ neg_ℚ (entry (slope f z) j)
-
 -- z and w are 0 at the same places
 abbrev pub HaveSameSupport : List ℚ → List ℚ → Type 0
 HaveSameSupport z w = (j : ℕ) → (entry z j ≡ zero_ℚ) ↔ (entry w j ≡ zero_ℚ)
-
--- z is stationary: there are such multipliers
-pub record IsStationary (f : Form) (z : List ℚ) : Type 0 where
-  pub multipliers : List ℚ
-  pub stationary : IsStationaryBy f z multipliers

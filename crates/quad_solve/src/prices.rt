@@ -1,7 +1,7 @@
 //! The price problem at a point of a form.
 
-ghost use Rattle.std.specs.Prelude.{◌≤◌, ◌^◌, All, AllPairs, ◌≡◌, ◌≢◌, ℕ, List, [], ◌∷◌, length, map};
-ghost use Rattle.rational.specs.Rational.{ℚ, zero_ℚ, one_ℚ, neg_ℚ};
+ghost use Rattle.std.specs.Prelude.{◌≤◌, ◌^◌, ◌↔◌, All, AllPairs, Some, ◌≡◌, ℕ, List, [], ◌∷◌, length};
+ghost use Rattle.rational.specs.Rational.{ℚ, zero_ℚ, one_ℚ};
 ghost use Rattle.rational.specs.Order.{◌<ℚ◌};
 ghost use Rattle.rational.specs.Sums.{entry};
 ghost use Rattle.rational.specs.Vectors.{IsSymmetric, IsSemidefinite};
@@ -10,7 +10,10 @@ ghost use Rattle.equational.specs.Form.{Form};
 ghost use Rattle.equational.specs.Solutions.{IsForm, IsSolution, IsFormRay};
 ghost use Rattle.equational.specs.Optimal.{IsOptimality};
 ghost use Rattle.quad_solve.specs.Problems.{price_problem, direction, last_number, price_multipliers, parabola};
-ghost use Rattle.quad_solve.specs.Steps.{LeadsDown, IsPriceStep, IsStationary, IsStationaryBy, HaveSameSupport, curvature, height, moved};
+ghost use Rattle.face_descent.specs.Small.{HasMultipliers, IsStationary};
+ghost use Rattle.face_descent.specs.Step.{moved};
+ghost use Rattle.quad_solve.specs.Operations.{price_length};
+ghost use Rattle.quad_solve.specs.Steps.{LeadsDown, IsPriceStep, HaveSameSupport, curvature, height};
 
 /// A solution of the price problem at a point gives a direction that leads down from it, and each such direction comes
 /// from a solution.
@@ -29,9 +32,9 @@ pub fn price_step_falls()
     ensures goes { (n : ℕ) (f : Form) (z d : List ℚ) (s : ℚ) → IsForm n f → IsSemidefinite n f.quadratic → LeadsDown f z d →
         IsPriceStep f z d s → zero_ℚ <ℚ s }
     ensures solution { (n : ℕ) (f : Form) (z d : List ℚ) (s : ℚ) → IsForm n f → IsSemidefinite n f.quadratic → IsSolution f z →
-        LeadsDown f z d → IsPriceStep f z d s → IsSolution f (moved z s d) }
+        LeadsDown f z d → IsPriceStep f z d s → IsSolution f (moved z d s) }
     ensures falls { (n : ℕ) (f : Form) (z d : List ℚ) (s : ℚ) → IsForm n f → IsSemidefinite n f.quadratic → IsSolution f z →
-        LeadsDown f z d → IsPriceStep f z d s → height f (moved z s d) <ℚ height f z }
+        LeadsDown f z d → IsPriceStep f z d s → height f (moved z d s) <ℚ height f z }
     ensures lessens { (n : ℕ) (f : Form) (z d : List ℚ) → IsForm n f → IsSemidefinite n f.quadratic → IsSolution f z →
         LeadsDown f z d → curvature f d ≡ zero_ℚ → ¬ (IsFormRay f d) → (j : ℕ) × (entry d j <ℚ zero_ℚ) }
     ensures some { (n : ℕ) (f : Form) (z d : List ℚ) → IsForm n f → IsSemidefinite n f.quadratic → IsSolution f z →
@@ -39,6 +42,12 @@ pub fn price_step_falls()
     ensures one { (n : ℕ) (f : Form) (z d : List ℚ) (s t : ℚ) → IsForm n f → IsSemidefinite n f.quadratic → LeadsDown f z d →
         IsPriceStep f z d s → IsPriceStep f z d t → s ≡ t }
     ensures worked { LeadsDown parabola (zero_ℚ ∷ []) (one_ℚ ∷ []) × IsPriceStep parabola (zero_ℚ ∷ []) (one_ℚ ∷ []) one_ℚ }
+{}
+
+/// A price step goes as far as the calculation of its length says.
+pub fn price_length_is_computed()
+    ensures { (n : ℕ) (f : Form) (z d : List ℚ) (s : ℚ) → IsForm n f → IsSemidefinite n f.quadratic → IsSolution f z → LeadsDown f z d →
+        IsPriceStep f z d s ↔ (price_length (curvature f d) z d ≡ Some s) }
 {}
 
 /// A Farkas vector of the price problem has a last entry below 0, and gives the multipliers that show the point optimal.
@@ -49,7 +58,7 @@ pub fn refuted_price_is_optimal()
     ensures optimal { (n : ℕ) (f : Form) (z w : List ℚ) → IsForm n f → linear.IsFarkas (price_problem f z) w →
         IsOptimality n f z (price_multipliers f w) }
     ensures stationary { (n : ℕ) (f : Form) (z w : List ℚ) → IsForm n f → linear.IsFarkas (price_problem f z) w →
-        IsStationaryBy f z (map neg_ℚ (price_multipliers f w)) }
+        HasMultipliers n f z }
     ensures not_both { (n : ℕ) (f : Form) (z x w : List ℚ) → IsForm n f → linear.IsSolution (price_problem f z) x →
         linear.IsFarkas (price_problem f z) w → ⊥ }
     ensures none { (n : ℕ) (f : Form) (z d w : List ℚ) → IsForm n f → IsSolution f z → linear.IsFarkas (price_problem f z) w →
@@ -58,14 +67,13 @@ pub fn refuted_price_is_optimal()
 
 /// Two stationary solutions with the same support have the same value; so where the values differ, the supports do.
 pub fn supports_of_stationary_points_differ()
-    ensures value { (n : ℕ) (f : Form) (z w μ ν : List ℚ) → IsForm n f → IsSymmetric n f.quadratic → IsSolution f z → IsSolution f w →
-        HaveSameSupport z w → IsStationaryBy f z μ → IsStationaryBy f w ν → height f z ≡ height f w }
-    ensures differ { (n : ℕ) (f : Form) (z w μ ν : List ℚ) → IsForm n f → IsSymmetric n f.quadratic → IsSolution f z → IsSolution f w →
-        IsStationaryBy f z μ → IsStationaryBy f w ν → height f w <ℚ height f z → ¬ (HaveSameSupport z w) }
+    ensures value { (n : ℕ) (f : Form) (z w : List ℚ) → IsForm n f → IsSymmetric n f.quadratic → IsSolution f z → IsSolution f w →
+        HaveSameSupport z w → IsStationary f z → IsStationary f w → height f z ≡ height f w }
+    ensures differ { (n : ℕ) (f : Form) (z w : List ℚ) → IsForm n f → IsSymmetric n f.quadratic → IsSolution f z → IsSolution f w →
+        IsStationary f z → IsStationary f w → height f w <ℚ height f z → ¬ (HaveSameSupport z w) }
 {}
 
-/// Stationary solutions whose values rise along a list are at most as many as there are sets of columns. So a walk, the newest
-/// point first, whose value falls from each stationary point to the next has fewer price steps than that.
+/// Stationary solutions whose values rise along a list are at most as many as there are sets of columns.
 pub fn stationary_points_are_few()
     ensures few { (n : ℕ) (f : Form) (points : List (List ℚ)) → IsForm n f → IsSymmetric n f.quadratic → All (IsSolution f) points →
         All (IsStationary f) points → AllPairs (λ z w. height f z <ℚ height f w) points → length points ≤ 2 ^ n }

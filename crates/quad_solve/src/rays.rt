@@ -1,10 +1,12 @@
 //! The feasible problem and the ray problem of a form, and how long the chains of its problems are.
 
-ghost use Rattle.std.specs.Prelude.{◌≡◌, ◌+◌, ◌≤◌, ◌^◌, ◌↔◌, ℕ, List, [], ◌∷◌, length};
+ghost use Rattle.std.specs.Prelude.{◌≡◌, ◌+◌, ◌≤◌, ◌^◌, ◌↔◌, ℕ, ℤ, List, [], ◌∷◌, length};
 ghost use Rattle.rational.specs.Rational.{ℚ, one_ℚ};
 ghost use Rattle.linear_basis.specs.Problem as linear;
-ghost use Rattle.equational.specs.Form.{Form};
-ghost use Rattle.equational.specs.Solutions.{IsForm, IsSolution, IsFormRay};
+ghost use Rattle.program_law.specs.Region.{Region, left_of, right_of};
+ghost use Rattle.program_law.specs.Program.{Program, IsProgram};
+ghost use Rattle.equational.specs.Form.{Form, form_of};
+ghost use Rattle.equational.specs.Solutions.{IsForm, IsSolution, IsFormRay, IsRegionRay, HasItsBounds};
 ghost use Rattle.equational.specs.Optimal.{IsRefutation};
 ghost use Rattle.linear_basis.specs.Basis.{Tableau};
 ghost use Rattle.linear_simplex.specs.Chain.{IsChain, IsSpent};
@@ -26,6 +28,17 @@ pub fn ray_problem_tells_rays()
     ensures every { (f : Form) (d : List ℚ) → IsFormRay f d → linear.IsSolution (ray_problem f) d }
     ensures none { (n : ℕ) (f : Form) (d y : List ℚ) → IsForm n f → linear.IsFarkas (ray_problem f) y → IsFormRay f d → ⊥ }
     ensures worked { linear.IsSolution (ray_problem falling_form) (one_ℚ ∷ []) }
+{}
+
+/// Whether the form of a region has a ray depends only on which bounds the region has, and not on their numbers. So where a
+/// region's form has none, neither has that of a region with all its bounds; and the halves of a region have them.
+pub fn rays_depend_on_which_bounds_exist()
+    ensures none { (p : Program) (region other : Region) → IsProgram p → length region ≡ length p.columns → length other ≡ length p.columns →
+        HasItsBounds region other → ((d : List ℚ) → ¬ (IsFormRay (form_of p region) d)) → (d : List ℚ) → ¬ (IsFormRay (form_of p other) d) }
+    ensures same { (p : Program) (region other : Region) (d : List ℚ) → HasItsBounds region other → HasItsBounds other region →
+        IsRegionRay p region d ↔ IsRegionRay p other d }
+    ensures left { (region : Region) (j : ℕ) (k : ℤ) → HasItsBounds region (left_of region j k) }
+    ensures right { (region : Region) (j : ℕ) (k : ℤ) → HasItsBounds region (right_of region j k) }
 {}
 
 /// How many columns and equations each problem of a form has, and so how many bases its chains have at most.

@@ -1,0 +1,161 @@
+-- The answer of a worked program, by computing: the walk starts at a corner of the form, goes by one price step to (2, 3), and ends there.
+use Rattle.std.proofs.Common.{◌≡◌, refl, sym, List, [], ◌∷◌, length, arith}
+use Rattle.std.specs.Prelude.{pos, neg_ℤ}
+use Rattle.algebra.proofs.Polynomial.{◌⊕◌, ◌⊗◌, ◌≼◌, lit}
+use Rattle.algebra.proofs.Certificate.{prove, square, weight, ◌⊞◌, ◌⊠◌, ◌⇐◌}
+use Rattle.rational.specs.Divisors.{gcd_of}
+use Rattle.rational.specs.Rational.{ℚ, zero_ℚ, whole, ratio, fraction, neg_ℚ, reciprocal, ◌+ℚ◌, ◌*ℚ◌}
+use Rattle.rational.specs.Order.{◌≤ℚ◌, same_fields_lem}
+use Rattle.rational.specs.Sums.{half}
+use Rattle.rational.specs.Vectors.{IsSemidefinite, dot, rows_dot}
+use Rattle.rational.proofs.Order.{ordered_rationals}
+use Rattle.program_law.specs.Program.{bounds}
+use Rattle.program_law.specs.Columns.{value}
+use Rattle.linear_basis.specs.Problem.{Problem}
+use Rattle.equational.specs.Form.{Form, form_of, point_of, multipliers_of}
+use Rattle.equational.specs.Solutions.{IsForm, IsSolution}
+use Rattle.face_descent.specs.Small.{IsStationary}
+use Rattle.quad_solve.specs.Problems.{feasible_problem, ray_problem, price_problem, price_multipliers}
+use Rattle.quad_solve.specs.Walk.{IsSolvedWithin, IsRefutedWithin, IsPriced}
+use Rattle.quad_solve.specs.Answer.{IsBest}
+use Rattle.quad_solve.specs.Worked.{n, minus, hill}
+use Rattle.quad_solve.proofs.Tested.{Stage, stage, solved_by, refuted_by, list_is, form, form_is, solution, symmetric, stationary, priced, IsOneStep, best_by}
+
+abbrev f : Form
+f = record { matrix = (n 1 ∷ n 1 ∷ n 1 ∷ n 0 ∷ n 0 ∷ []) ∷ (minus 1 ∷ n 2 ∷ n 0 ∷ n 1 ∷ n 0 ∷ []) ∷ (n 0 ∷ n 1 ∷ n 0 ∷ n 0 ∷ n 1 ∷ []) ∷ []; right = n 7 ∷ n 4 ∷ n 4 ∷ []; quadratic = (n 2 ∷ n 0 ∷ n 0 ∷ n 0 ∷ n 0 ∷ []) ∷ (n 0 ∷ n 8 ∷ n 0 ∷ n 0 ∷ n 0 ∷ []) ∷ (n 0 ∷ n 0 ∷ n 0 ∷ n 0 ∷ n 0 ∷ []) ∷ (n 0 ∷ n 0 ∷ n 0 ∷ n 0 ∷ n 0 ∷ []) ∷ (n 0 ∷ n 0 ∷ n 0 ∷ n 0 ∷ n 0 ∷ []) ∷ []; cost = n 0 ∷ minus 32 ∷ n 0 ∷ n 0 ∷ n 0 ∷ []; constant = n 64 }
+
+f_is : form_of hill (bounds hill) ≡ f
+unfolding ◌+ℚ◌ ◌*ℚ◌ neg_ℚ ratio gcd_of whole reciprocal half
+f_is = form_is (form_of hill (bounds hill)) f refl
+
+fits : IsForm 5 f
+unfolding ◌+ℚ◌ ◌*ℚ◌ neg_ℚ ratio gcd_of whole reciprocal
+fits = form 5 f refl
+
+-- its form is never below 0
+nonneg : (v : List ℚ) → length v ≡ 5 → zero_ℚ ≤ℚ dot v (rows_dot f.quadratic v)
+nonneg [] h = absurd (omega arith)
+nonneg (a ∷ []) h = absurd (omega arith)
+nonneg (a ∷ b ∷ []) h = absurd (omega arith)
+nonneg (a ∷ b ∷ c ∷ []) h = absurd (omega arith)
+nonneg (a ∷ b ∷ c ∷ d ∷ []) h = absurd (omega arith)
+nonneg (a ∷ b ∷ c ∷ d ∷ e ∷ []) h = prove ordered_rationals (a ∷ b ∷ c ∷ d ∷ e ∷ [])
+    (λ a b c d e. lit 0 ≼ a ⊗ (lit 2 ⊗ a ⊕ (lit 0 ⊗ b ⊕ (lit 0 ⊗ c ⊕ (lit 0 ⊗ d ⊕ (lit 0 ⊗ e ⊕ lit 0))))) ⊕ (b ⊗ (lit 0 ⊗ a ⊕ (lit 8 ⊗ b ⊕ (lit 0 ⊗ c ⊕ (lit 0 ⊗ d ⊕ (lit 0 ⊗ e ⊕ lit 0))))) ⊕ (c ⊗ (lit 0 ⊗ a ⊕ (lit 0 ⊗ b ⊕ (lit 0 ⊗ c ⊕ (lit 0 ⊗ d ⊕ (lit 0 ⊗ e ⊕ lit 0))))) ⊕ (d ⊗ (lit 0 ⊗ a ⊕ (lit 0 ⊗ b ⊕ (lit 0 ⊗ c ⊕ (lit 0 ⊗ d ⊕ (lit 0 ⊗ e ⊕ lit 0))))) ⊕ (e ⊗ (lit 0 ⊗ a ⊕ (lit 0 ⊗ b ⊕ (lit 0 ⊗ c ⊕ (lit 0 ⊗ d ⊕ (lit 0 ⊗ e ⊕ lit 0))))) ⊕ lit 0))))
+    ⇐ (weight 2 ⊠ square a) ⊞ (weight 8 ⊠ square b)) refl
+nonneg (a ∷ b ∷ c ∷ d ∷ e ∷ x ∷ v) h = absurd (omega arith)
+
+convex : IsSemidefinite 5 f.quadratic
+unfolding ◌+ℚ◌ ◌*ℚ◌ neg_ℚ ratio gcd_of whole reciprocal
+convex = record { symmetric = symmetric 5 f.quadratic refl; nonneg = nonneg }
+
+abbrev start : List ℚ
+start = fraction (pos 10) 3 ∷ fraction (pos 11) 3 ∷ n 0 ∷ n 0 ∷ fraction (pos 1) 3 ∷ []
+
+abbrev end : List ℚ
+end = n 2 ∷ n 3 ∷ n 2 ∷ n 0 ∷ n 1 ∷ []
+
+-- the feasible chain
+abbrev feasible_given : Problem
+feasible_given = record { given = 5; rows = (n 1 ∷ n 1 ∷ n 1 ∷ n 0 ∷ n 0 ∷ []) ∷ (minus 1 ∷ n 2 ∷ n 0 ∷ n 1 ∷ n 0 ∷ []) ∷ (n 0 ∷ n 1 ∷ n 0 ∷ n 0 ∷ n 1 ∷ []) ∷ []; right = n 7 ∷ n 4 ∷ n 4 ∷ [] }
+
+abbrev feasible_stages : List Stage
+feasible_stages =
+    stage 0 1 1 ((n 1 ∷ fraction (neg_ℤ (pos 1)) 2 ∷ n 0 ∷ []) ∷ (n 0 ∷ fraction (pos 1) 2 ∷ n 0 ∷ []) ∷ (n 0 ∷ fraction (neg_ℤ (pos 1)) 2 ∷ n 1 ∷ []) ∷ [])
+    ∷ stage 0 0 0 ((fraction (pos 2) 3 ∷ fraction (neg_ℤ (pos 1)) 3 ∷ n 0 ∷ []) ∷ (fraction (pos 1) 3 ∷ fraction (pos 1) 3 ∷ n 0 ∷ []) ∷ (fraction (neg_ℤ (pos 1)) 3 ∷ fraction (neg_ℤ (pos 1)) 3 ∷ n 1 ∷ []) ∷ [])
+    ∷ stage 2 4 2 ((fraction (pos 2) 3 ∷ fraction (neg_ℤ (pos 1)) 3 ∷ n 0 ∷ []) ∷ (fraction (pos 1) 3 ∷ fraction (pos 1) 3 ∷ n 0 ∷ []) ∷ (fraction (neg_ℤ (pos 1)) 3 ∷ fraction (neg_ℤ (pos 1)) 3 ∷ n 1 ∷ []) ∷ [])
+    ∷ []
+
+feasible : IsSolvedWithin (feasible_problem f) 6 start
+unfolding ◌+ℚ◌ ◌*ℚ◌ neg_ℚ ratio gcd_of whole reciprocal
+feasible = solved_by (feasible_problem f) feasible_given feasible_stages 6 start refl
+
+-- the ray chain
+abbrev rays_given : Problem
+rays_given = record { given = 5; rows = (n 1 ∷ n 1 ∷ n 1 ∷ n 0 ∷ n 0 ∷ []) ∷ (minus 1 ∷ n 2 ∷ n 0 ∷ n 1 ∷ n 0 ∷ []) ∷ (n 0 ∷ n 1 ∷ n 0 ∷ n 0 ∷ n 1 ∷ []) ∷ (n 2 ∷ n 0 ∷ n 0 ∷ n 0 ∷ n 0 ∷ []) ∷ (n 0 ∷ n 8 ∷ n 0 ∷ n 0 ∷ n 0 ∷ []) ∷ (n 0 ∷ n 0 ∷ n 0 ∷ n 0 ∷ n 0 ∷ []) ∷ (n 0 ∷ n 0 ∷ n 0 ∷ n 0 ∷ n 0 ∷ []) ∷ (n 0 ∷ n 0 ∷ n 0 ∷ n 0 ∷ n 0 ∷ []) ∷ (n 0 ∷ n 32 ∷ n 0 ∷ n 0 ∷ n 0 ∷ []) ∷ []; right = n 0 ∷ n 0 ∷ n 0 ∷ n 0 ∷ n 0 ∷ n 0 ∷ n 0 ∷ n 0 ∷ n 1 ∷ [] }
+
+abbrev rays_stages : List Stage
+rays_stages =
+    stage 8 0 3 ((n 1 ∷ n 0 ∷ n 0 ∷ fraction (neg_ℤ (pos 1)) 2 ∷ n 0 ∷ n 0 ∷ n 0 ∷ n 0 ∷ n 0 ∷ []) ∷ (n 0 ∷ n 1 ∷ n 0 ∷ fraction (pos 1) 2 ∷ n 0 ∷ n 0 ∷ n 0 ∷ n 0 ∷ n 0 ∷ []) ∷ (n 0 ∷ n 0 ∷ n 1 ∷ n 0 ∷ n 0 ∷ n 0 ∷ n 0 ∷ n 0 ∷ n 0 ∷ []) ∷ (n 0 ∷ n 0 ∷ n 0 ∷ fraction (pos 1) 2 ∷ n 0 ∷ n 0 ∷ n 0 ∷ n 0 ∷ n 0 ∷ []) ∷ (n 0 ∷ n 0 ∷ n 0 ∷ n 0 ∷ n 1 ∷ n 0 ∷ n 0 ∷ n 0 ∷ n 0 ∷ []) ∷ (n 0 ∷ n 0 ∷ n 0 ∷ n 0 ∷ n 0 ∷ n 1 ∷ n 0 ∷ n 0 ∷ n 0 ∷ []) ∷ (n 0 ∷ n 0 ∷ n 0 ∷ n 0 ∷ n 0 ∷ n 0 ∷ n 1 ∷ n 0 ∷ n 0 ∷ []) ∷ (n 0 ∷ n 0 ∷ n 0 ∷ n 0 ∷ n 0 ∷ n 0 ∷ n 0 ∷ n 1 ∷ n 0 ∷ []) ∷ (n 0 ∷ n 0 ∷ n 0 ∷ n 0 ∷ n 0 ∷ n 0 ∷ n 0 ∷ n 0 ∷ n 1 ∷ []) ∷ [])
+    ∷ stage 8 1 4 ((n 1 ∷ n 0 ∷ n 0 ∷ fraction (neg_ℤ (pos 1)) 2 ∷ fraction (neg_ℤ (pos 1)) 8 ∷ n 0 ∷ n 0 ∷ n 0 ∷ n 0 ∷ []) ∷ (n 0 ∷ n 1 ∷ n 0 ∷ fraction (pos 1) 2 ∷ fraction (neg_ℤ (pos 1)) 4 ∷ n 0 ∷ n 0 ∷ n 0 ∷ n 0 ∷ []) ∷ (n 0 ∷ n 0 ∷ n 1 ∷ n 0 ∷ fraction (neg_ℤ (pos 1)) 8 ∷ n 0 ∷ n 0 ∷ n 0 ∷ n 0 ∷ []) ∷ (n 0 ∷ n 0 ∷ n 0 ∷ fraction (pos 1) 2 ∷ n 0 ∷ n 0 ∷ n 0 ∷ n 0 ∷ n 0 ∷ []) ∷ (n 0 ∷ n 0 ∷ n 0 ∷ n 0 ∷ fraction (pos 1) 8 ∷ n 0 ∷ n 0 ∷ n 0 ∷ n 0 ∷ []) ∷ (n 0 ∷ n 0 ∷ n 0 ∷ n 0 ∷ n 0 ∷ n 1 ∷ n 0 ∷ n 0 ∷ n 0 ∷ []) ∷ (n 0 ∷ n 0 ∷ n 0 ∷ n 0 ∷ n 0 ∷ n 0 ∷ n 1 ∷ n 0 ∷ n 0 ∷ []) ∷ (n 0 ∷ n 0 ∷ n 0 ∷ n 0 ∷ n 0 ∷ n 0 ∷ n 0 ∷ n 1 ∷ n 0 ∷ []) ∷ (n 0 ∷ n 0 ∷ n 0 ∷ n 0 ∷ minus 4 ∷ n 0 ∷ n 0 ∷ n 0 ∷ n 1 ∷ []) ∷ [])
+    ∷ stage 8 2 0 ((n 1 ∷ n 0 ∷ n 0 ∷ fraction (neg_ℤ (pos 1)) 2 ∷ fraction (neg_ℤ (pos 1)) 8 ∷ n 0 ∷ n 0 ∷ n 0 ∷ n 0 ∷ []) ∷ (n 0 ∷ n 1 ∷ n 0 ∷ fraction (pos 1) 2 ∷ fraction (neg_ℤ (pos 1)) 4 ∷ n 0 ∷ n 0 ∷ n 0 ∷ n 0 ∷ []) ∷ (n 0 ∷ n 0 ∷ n 1 ∷ n 0 ∷ fraction (neg_ℤ (pos 1)) 8 ∷ n 0 ∷ n 0 ∷ n 0 ∷ n 0 ∷ []) ∷ (n 0 ∷ n 0 ∷ n 0 ∷ fraction (pos 1) 2 ∷ n 0 ∷ n 0 ∷ n 0 ∷ n 0 ∷ n 0 ∷ []) ∷ (n 0 ∷ n 0 ∷ n 0 ∷ n 0 ∷ fraction (pos 1) 8 ∷ n 0 ∷ n 0 ∷ n 0 ∷ n 0 ∷ []) ∷ (n 0 ∷ n 0 ∷ n 0 ∷ n 0 ∷ n 0 ∷ n 1 ∷ n 0 ∷ n 0 ∷ n 0 ∷ []) ∷ (n 0 ∷ n 0 ∷ n 0 ∷ n 0 ∷ n 0 ∷ n 0 ∷ n 1 ∷ n 0 ∷ n 0 ∷ []) ∷ (n 0 ∷ n 0 ∷ n 0 ∷ n 0 ∷ n 0 ∷ n 0 ∷ n 0 ∷ n 1 ∷ n 0 ∷ []) ∷ (n 0 ∷ n 0 ∷ n 0 ∷ n 0 ∷ minus 4 ∷ n 0 ∷ n 0 ∷ n 0 ∷ n 1 ∷ []) ∷ [])
+    ∷ stage 8 3 1 ((n 1 ∷ n 0 ∷ n 0 ∷ fraction (neg_ℤ (pos 1)) 2 ∷ fraction (neg_ℤ (pos 1)) 8 ∷ n 0 ∷ n 0 ∷ n 0 ∷ n 0 ∷ []) ∷ (n 0 ∷ n 1 ∷ n 0 ∷ fraction (pos 1) 2 ∷ fraction (neg_ℤ (pos 1)) 4 ∷ n 0 ∷ n 0 ∷ n 0 ∷ n 0 ∷ []) ∷ (n 0 ∷ n 0 ∷ n 1 ∷ n 0 ∷ fraction (neg_ℤ (pos 1)) 8 ∷ n 0 ∷ n 0 ∷ n 0 ∷ n 0 ∷ []) ∷ (n 0 ∷ n 0 ∷ n 0 ∷ fraction (pos 1) 2 ∷ n 0 ∷ n 0 ∷ n 0 ∷ n 0 ∷ n 0 ∷ []) ∷ (n 0 ∷ n 0 ∷ n 0 ∷ n 0 ∷ fraction (pos 1) 8 ∷ n 0 ∷ n 0 ∷ n 0 ∷ n 0 ∷ []) ∷ (n 0 ∷ n 0 ∷ n 0 ∷ n 0 ∷ n 0 ∷ n 1 ∷ n 0 ∷ n 0 ∷ n 0 ∷ []) ∷ (n 0 ∷ n 0 ∷ n 0 ∷ n 0 ∷ n 0 ∷ n 0 ∷ n 1 ∷ n 0 ∷ n 0 ∷ []) ∷ (n 0 ∷ n 0 ∷ n 0 ∷ n 0 ∷ n 0 ∷ n 0 ∷ n 0 ∷ n 1 ∷ n 0 ∷ []) ∷ (n 0 ∷ n 0 ∷ n 0 ∷ n 0 ∷ minus 4 ∷ n 0 ∷ n 0 ∷ n 0 ∷ n 1 ∷ []) ∷ [])
+    ∷ stage 8 4 2 ((n 1 ∷ n 0 ∷ n 0 ∷ fraction (neg_ℤ (pos 1)) 2 ∷ fraction (neg_ℤ (pos 1)) 8 ∷ n 0 ∷ n 0 ∷ n 0 ∷ n 0 ∷ []) ∷ (n 0 ∷ n 1 ∷ n 0 ∷ fraction (pos 1) 2 ∷ fraction (neg_ℤ (pos 1)) 4 ∷ n 0 ∷ n 0 ∷ n 0 ∷ n 0 ∷ []) ∷ (n 0 ∷ n 0 ∷ n 1 ∷ n 0 ∷ fraction (neg_ℤ (pos 1)) 8 ∷ n 0 ∷ n 0 ∷ n 0 ∷ n 0 ∷ []) ∷ (n 0 ∷ n 0 ∷ n 0 ∷ fraction (pos 1) 2 ∷ n 0 ∷ n 0 ∷ n 0 ∷ n 0 ∷ n 0 ∷ []) ∷ (n 0 ∷ n 0 ∷ n 0 ∷ n 0 ∷ fraction (pos 1) 8 ∷ n 0 ∷ n 0 ∷ n 0 ∷ n 0 ∷ []) ∷ (n 0 ∷ n 0 ∷ n 0 ∷ n 0 ∷ n 0 ∷ n 1 ∷ n 0 ∷ n 0 ∷ n 0 ∷ []) ∷ (n 0 ∷ n 0 ∷ n 0 ∷ n 0 ∷ n 0 ∷ n 0 ∷ n 1 ∷ n 0 ∷ n 0 ∷ []) ∷ (n 0 ∷ n 0 ∷ n 0 ∷ n 0 ∷ n 0 ∷ n 0 ∷ n 0 ∷ n 1 ∷ n 0 ∷ []) ∷ (n 0 ∷ n 0 ∷ n 0 ∷ n 0 ∷ minus 4 ∷ n 0 ∷ n 0 ∷ n 0 ∷ n 1 ∷ []) ∷ [])
+    ∷ []
+
+rays : IsRefutedWithin (ray_problem f) 6 (n 0 ∷ n 0 ∷ n 0 ∷ n 0 ∷ n 4 ∷ minus 1 ∷ minus 1 ∷ minus 1 ∷ minus 1 ∷ [])
+unfolding ◌+ℚ◌ ◌*ℚ◌ neg_ℚ ratio gcd_of whole reciprocal
+rays = refuted_by (ray_problem f) rays_given rays_stages 8 6 (n 0 ∷ n 0 ∷ n 0 ∷ n 0 ∷ n 4 ∷ minus 1 ∷ minus 1 ∷ minus 1 ∷ minus 1 ∷ []) refl
+
+-- the price chain at the start
+abbrev down_given : Problem
+down_given = record { given = 8; rows = (n 1 ∷ n 1 ∷ n 1 ∷ n 0 ∷ n 0 ∷ minus 1 ∷ minus 1 ∷ n 0 ∷ []) ∷ (minus 1 ∷ n 2 ∷ n 0 ∷ n 1 ∷ n 0 ∷ n 1 ∷ minus 2 ∷ n 0 ∷ []) ∷ (n 0 ∷ n 1 ∷ n 0 ∷ n 0 ∷ n 1 ∷ n 0 ∷ minus 1 ∷ minus 1 ∷ []) ∷ (fraction (neg_ℤ (pos 20)) 3 ∷ fraction (pos 8) 3 ∷ n 0 ∷ n 0 ∷ n 0 ∷ fraction (pos 20) 3 ∷ fraction (neg_ℤ (pos 8)) 3 ∷ n 0 ∷ []) ∷ []; right = n 0 ∷ n 0 ∷ n 0 ∷ n 1 ∷ [] }
+
+abbrev down_stages : List Stage
+down_stages =
+    stage 3 1 2 ((n 1 ∷ n 0 ∷ minus 1 ∷ n 0 ∷ []) ∷ (n 0 ∷ n 1 ∷ minus 2 ∷ n 0 ∷ []) ∷ (n 0 ∷ n 0 ∷ n 1 ∷ n 0 ∷ []) ∷ (n 0 ∷ n 0 ∷ fraction (neg_ℤ (pos 8)) 3 ∷ n 1 ∷ []) ∷ [])
+    ∷ stage 3 2 0 ((n 1 ∷ n 0 ∷ minus 1 ∷ n 0 ∷ []) ∷ (n 0 ∷ n 1 ∷ minus 2 ∷ n 0 ∷ []) ∷ (n 0 ∷ n 0 ∷ n 1 ∷ n 0 ∷ []) ∷ (n 0 ∷ n 0 ∷ fraction (neg_ℤ (pos 8)) 3 ∷ n 1 ∷ []) ∷ [])
+    ∷ stage 3 3 1 ((n 1 ∷ n 0 ∷ minus 1 ∷ n 0 ∷ []) ∷ (n 0 ∷ n 1 ∷ minus 2 ∷ n 0 ∷ []) ∷ (n 0 ∷ n 0 ∷ n 1 ∷ n 0 ∷ []) ∷ (n 0 ∷ n 0 ∷ fraction (neg_ℤ (pos 8)) 3 ∷ n 1 ∷ []) ∷ [])
+    ∷ stage 3 5 1 ((n 1 ∷ n 1 ∷ minus 3 ∷ n 0 ∷ []) ∷ (n 0 ∷ n 1 ∷ minus 2 ∷ n 0 ∷ []) ∷ (n 0 ∷ n 0 ∷ n 1 ∷ n 0 ∷ []) ∷ (n 0 ∷ fraction (neg_ℤ (pos 20)) 3 ∷ fraction (pos 32) 3 ∷ n 1 ∷ []) ∷ [])
+    ∷ stage 3 4 2 ((n 1 ∷ n 1 ∷ n 0 ∷ n 0 ∷ []) ∷ (n 0 ∷ n 1 ∷ n 0 ∷ n 0 ∷ []) ∷ (n 0 ∷ n 0 ∷ n 1 ∷ n 0 ∷ []) ∷ (n 0 ∷ fraction (neg_ℤ (pos 20)) 3 ∷ n 0 ∷ n 1 ∷ []) ∷ [])
+    ∷ stage 3 6 3 ((n 1 ∷ fraction (neg_ℤ (pos 7)) 8 ∷ n 0 ∷ fraction (pos 9) 32 ∷ []) ∷ (n 0 ∷ fraction (neg_ℤ (pos 1)) 4 ∷ n 0 ∷ fraction (pos 3) 16 ∷ []) ∷ (n 0 ∷ fraction (neg_ℤ (pos 5)) 8 ∷ n 1 ∷ fraction (pos 3) 32 ∷ []) ∷ (n 0 ∷ fraction (neg_ℤ (pos 5)) 8 ∷ n 0 ∷ fraction (pos 3) 32 ∷ []) ∷ [])
+    ∷ []
+
+down : IsSolvedWithin (price_problem f start) 6 (n 0 ∷ n 0 ∷ fraction (pos 9) 32 ∷ n 0 ∷ fraction (pos 3) 32 ∷ fraction (pos 3) 16 ∷ fraction (pos 3) 32 ∷ n 0 ∷ [])
+unfolding ◌+ℚ◌ ◌*ℚ◌ neg_ℚ ratio gcd_of whole reciprocal
+down = solved_by (price_problem f start) down_given down_stages 6 (n 0 ∷ n 0 ∷ fraction (pos 9) 32 ∷ n 0 ∷ fraction (pos 3) 32 ∷ fraction (pos 3) 16 ∷ fraction (pos 3) 32 ∷ n 0 ∷ []) refl
+
+abbrev farkas : List ℚ
+farkas = n 0 ∷ n 4 ∷ n 0 ∷ minus 1 ∷ []
+
+-- the price chain at the end
+abbrev done_given : Problem
+done_given = record { given = 9; rows = (n 1 ∷ n 1 ∷ n 1 ∷ n 0 ∷ n 0 ∷ minus 1 ∷ minus 1 ∷ minus 1 ∷ n 0 ∷ []) ∷ (minus 1 ∷ n 2 ∷ n 0 ∷ n 1 ∷ n 0 ∷ n 1 ∷ minus 2 ∷ n 0 ∷ n 0 ∷ []) ∷ (n 0 ∷ n 1 ∷ n 0 ∷ n 0 ∷ n 1 ∷ n 0 ∷ minus 1 ∷ n 0 ∷ minus 1 ∷ []) ∷ (minus 4 ∷ n 8 ∷ n 0 ∷ n 0 ∷ n 0 ∷ n 4 ∷ minus 8 ∷ n 0 ∷ n 0 ∷ []) ∷ []; right = n 0 ∷ n 0 ∷ n 0 ∷ n 1 ∷ [] }
+
+abbrev done_stages : List Stage
+done_stages =
+    stage 3 1 2 ((n 1 ∷ n 0 ∷ minus 1 ∷ n 0 ∷ []) ∷ (n 0 ∷ n 1 ∷ minus 2 ∷ n 0 ∷ []) ∷ (n 0 ∷ n 0 ∷ n 1 ∷ n 0 ∷ []) ∷ (n 0 ∷ n 0 ∷ minus 8 ∷ n 1 ∷ []) ∷ [])
+    ∷ stage 3 2 0 ((n 1 ∷ n 0 ∷ minus 1 ∷ n 0 ∷ []) ∷ (n 0 ∷ n 1 ∷ minus 2 ∷ n 0 ∷ []) ∷ (n 0 ∷ n 0 ∷ n 1 ∷ n 0 ∷ []) ∷ (n 0 ∷ n 0 ∷ minus 8 ∷ n 1 ∷ []) ∷ [])
+    ∷ stage 3 3 1 ((n 1 ∷ n 0 ∷ minus 1 ∷ n 0 ∷ []) ∷ (n 0 ∷ n 1 ∷ minus 2 ∷ n 0 ∷ []) ∷ (n 0 ∷ n 0 ∷ n 1 ∷ n 0 ∷ []) ∷ (n 0 ∷ n 0 ∷ minus 8 ∷ n 1 ∷ []) ∷ [])
+    ∷ stage 3 5 1 ((n 1 ∷ n 1 ∷ minus 3 ∷ n 0 ∷ []) ∷ (n 0 ∷ n 1 ∷ minus 2 ∷ n 0 ∷ []) ∷ (n 0 ∷ n 0 ∷ n 1 ∷ n 0 ∷ []) ∷ (n 0 ∷ minus 4 ∷ n 0 ∷ n 1 ∷ []) ∷ [])
+    ∷ []
+
+done : IsRefutedWithin (price_problem f end) 6 farkas
+unfolding ◌+ℚ◌ ◌*ℚ◌ neg_ℚ ratio gcd_of whole reciprocal
+done = refuted_by (price_problem f end) done_given done_stages 3 6 farkas refl
+
+-- the walk
+start_solves : IsSolution f start
+unfolding ◌+ℚ◌ ◌*ℚ◌ neg_ℚ ratio gcd_of whole reciprocal
+start_solves = solution f start refl
+
+start_still : IsStationary f start
+unfolding ◌+ℚ◌ ◌*ℚ◌ neg_ℚ ratio gcd_of whole reciprocal
+start_still = stationary 5 f start (fraction (pos 32) 9 ∷ fraction (neg_ℤ (pos 28)) 9 ∷ n 0 ∷ []) fits convex refl refl
+
+end_still : IsStationary f end
+unfolding ◌+ℚ◌ ◌*ℚ◌ neg_ℚ ratio gcd_of whole reciprocal
+end_still = stationary 5 f end (n 0 ∷ minus 4 ∷ n 0 ∷ []) fits convex refl refl
+
+step : IsPriced f start end
+unfolding ◌+ℚ◌ ◌*ℚ◌ neg_ℚ ratio gcd_of whole reciprocal
+step = priced 5 f start (n 0 ∷ n 0 ∷ fraction (pos 9) 32 ∷ n 0 ∷ fraction (pos 3) 32 ∷ fraction (pos 3) 16 ∷ fraction (pos 3) 32 ∷ n 0 ∷ []) (fraction (neg_ℤ (pos 3)) 16 ∷ fraction (neg_ℤ (pos 3)) 32 ∷ fraction (pos 9) 32 ∷ n 0 ∷ fraction (pos 3) 32 ∷ []) (fraction (pos 64) 9) end fits convex start_solves start_still (6, down) refl
+
+one_step : IsOneStep 5 f 6 start end farkas
+one_step = record {
+  fits = fits;
+  convex = convex;
+  solved = feasible;
+  no_ray = (n 0 ∷ n 0 ∷ n 0 ∷ n 0 ∷ n 4 ∷ minus 1 ∷ minus 1 ∷ minus 1 ∷ minus 1 ∷ [], rays);
+  direction = (n 0 ∷ n 0 ∷ fraction (pos 9) 32 ∷ n 0 ∷ fraction (pos 3) 32 ∷ fraction (pos 3) 16 ∷ fraction (pos 3) 32 ∷ n 0 ∷ [], down);
+  step = step;
+  still = end_still;
+  refuted = done;
+  room = omega arith;
+}
+
+-- carried back
+pub answer : IsBest hill (bounds hill) 6 (n 2 ∷ n 3 ∷ []) (n 8) (n 0 ∷ minus 4 ∷ [])
+unfolding ◌+ℚ◌ ◌*ℚ◌ neg_ℚ ratio gcd_of whole reciprocal half
+answer = best_by hill (bounds hill) f 5 6 start end farkas (n 2 ∷ n 3 ∷ []) (n 8) (n 0 ∷ minus 4 ∷ []) f_is refl one_step
+    (sym (list_is (point_of (bounds hill) end) (n 2 ∷ n 3 ∷ []) refl)) (sym (same_fields_lem (value hill (n 2 ∷ n 3 ∷ [])) (n 8) refl))
+    (sym (list_is (multipliers_of hill (bounds hill) (price_multipliers f farkas)) (n 0 ∷ minus 4 ∷ []) refl))
