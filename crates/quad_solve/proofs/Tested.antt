@@ -31,7 +31,7 @@ use Rattle.quad_solve.specs.Answer.{IsBest}
 use Rattle.quad_solve.specs.Operations.{price_length}
 use Rattle.quad_solve.proofs.Few.{past_the_end, below_or}
 use Rattle.quad_solve.proofs.WalkSteps.{priced_down, start_solves, goes_further}
-use Rattle.quad_solve.proofs.PriceLength.{length_is}
+use Rattle.quad_solve.proofs.Lengths.{length_is}
 
 both : (a b : Bool) → (a && b) ≡ true → (a ≡ true) × (b ≡ true)
 both true b e = (refl, e)

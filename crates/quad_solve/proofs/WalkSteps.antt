@@ -63,7 +63,7 @@ module _ (n : ℕ) (f : Form) (form : IsForm n f) (semi : IsSemidefinite n f.qua
     where
       priced : IsStationary f z → (x : List ℚ) → IsSolved (price_problem f z) x → (way : Way) × (next : List ℚ) × GoesOn n f way z next
       priced st x h =
-          let s = some_step n f z (direction f z x) form semi (priced_down z x sol h) sol (rayless (direction f z x)) in
+          let s = some_step n f z (direction f z x) form semi sol (priced_down z x sol h) (rayless (direction f z x)) in
           (Price, Rattle.face_descent.specs.Step.moved z (direction f z x) s.0, record { stationary = st; solution = x; solved = h; step = s.0; goes = s.1; end = refl })
 
       at : IsStationary f z → (budget : ℕ) × Rattle.quad_solve.specs.Walk.IsDecidedWithin (price_problem f z) budget
