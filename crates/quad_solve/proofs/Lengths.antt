@@ -33,8 +33,8 @@ module _ (n : ℕ) (f : Form) (z d : List ℚ) (form : IsForm n f) (semi : IsSem
   no_longer : (s t : ℚ) → IsPriceStep f z d s → IsPriceStep f z d t → s ≤ℚ t
   no_longer s t one other = ⊎_elim (λ m. subst (λ r. s ≤ℚ r) (sym m.there) (one.within m.place m.falls))
       (λ e. prove ordered_rationals (s ∷ t ∷ curvature f d ∷ [])
-          (λ s t h. s ≼ t ⇐ (given (lit 0 ≼ t) ⊠ given (s ⊗ h ≼ lit 1)) ⊞ scaled (minus s) (t ⊗ h) (lit 1)) refl
-          (lt_le zero_ℚ t (step_goes n f z d form semi down t other)) one.minimum e) other.met
+      (λ s t h. s ≼ t ⇐ (given (lit 0 ≼ t) ⊠ given (s ⊗ h ≼ lit 1)) ⊞ scaled (minus s) (t ⊗ h) (lit 1)) refl
+      (lt_le zero_ℚ t (step_goes n f z d form semi down t other)) one.minimum e) other.met
 
   pub one_step : (s t : ℚ) → IsPriceStep f z d s → IsPriceStep f z d t → s ≡ t
   one_step s t one other = le_antisymm s t (no_longer s t one other) (no_longer t s other one)

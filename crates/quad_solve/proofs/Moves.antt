@@ -14,10 +14,10 @@ use Rattle.rational.proofs.Vectors.{length-rows_dot, dot_comm, dot-zeros_right, 
 use Rattle.rational.proofs.Forms.{expansion, form_comm, null_of_form}
 use Rattle.equational.specs.Form.{Form}
 use Rattle.equational.specs.Solutions.{IsForm, IsSolution, IsFormRay}
-use Rattle.quad_solve.specs.Problems.{slope}
+use Rattle.face_descent.specs.Small.{height, slope}
 use Rattle.face_descent.specs.Step.{distance, moved}
 use Rattle.face_descent.proofs.Moves.{ratio_positive, solution_there}
-use Rattle.quad_solve.specs.Steps.{LeadsDown, IsPriceStep, curvature, height}
+use Rattle.quad_solve.specs.Steps.{LeadsDown, IsPriceStep, curvature}
 use Rattle.quad_solve.proofs.Lists.{some_below}
 
 half_positive : zero_ℚ <ℚ half

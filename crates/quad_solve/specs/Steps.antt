@@ -3,14 +3,10 @@ use Rattle.std.specs.Prelude.{◌≡◌, ℕ, List, length, ◌⊎◌, ◌↔◌
 use Rattle.rational.specs.Rational.{ℚ, zero_ℚ, one_ℚ, neg_ℚ, ◌*ℚ◌}
 use Rattle.rational.specs.Order.{◌≤ℚ◌, ◌<ℚ◌}
 use Rattle.rational.specs.Sums.{entry}
-use Rattle.rational.specs.Vectors.{dot, zeros, rows_dot, quadratic}
+use Rattle.rational.specs.Vectors.{dot, zeros, rows_dot}
 use Rattle.equational.specs.Form.{Form}
 use Rattle.face_descent.specs.Step.{IsWithin, IsNearest}
-use Rattle.quad_solve.specs.Problems.{slope}
-
--- what the form asks at z: ½ z^T Q z + c · z + c0
-abbrev pub height : Form → List ℚ → ℚ
-height f z = quadratic f.quadratic f.cost f.constant z
+use Rattle.face_descent.specs.Small.{slope}
 
 -- d leads down from z: M d = 0, the gradient at z gives it -1, and it lessens only what is above 0
 pub record LeadsDown (f : Form) (z d : List ℚ) : Type 0 where
