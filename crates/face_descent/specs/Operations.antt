@@ -3,7 +3,7 @@
 use Rattle.std.specs.Prelude.{ℕ, List, [], ◌∷◌, ◌++◌, Option, Some, None, if◌then◌else◌}
 use Rattle.rational.specs.Rational.{ℚ, zero_ℚ, one_ℚ, neg_ℚ, ◌*ℚ◌, ◌/ℚ◌}
 use Rattle.rational.specs.Order.{same_fields}
-use Rattle.rational.specs.Vectors.{dot, scale, gradient}
+use Rattle.rational.specs.Vectors.{dot, scale}
 use Rattle.frac_core.specs.declared.fractions.Op.TheVariants.{Add, Mul, Div}
 use Rattle.frac_core.specs.declared.fractions.Refused.{Refused}
 use Rattle.frac_core.specs.Operations.{operation}
@@ -12,7 +12,7 @@ use Rattle.program_law.specs.Tests.{is_negative, is_positive, is_le}
 use Rattle.exact_matrix.specs.EliminationAnswers.{Answer, Solution, Refutation, lines_of, solve_rows}
 use Rattle.exact_matrix.specs.EliminationOperations.{elimination_ops}
 use Rattle.equational.specs.Form.{Form}
-use Rattle.face_descent.specs.Small.{support, small_rows, small_right, small_width, small_answer}
+use Rattle.face_descent.specs.Small.{slope, support, small_rows, small_right, small_width, small_answer}
 use Rattle.face_descent.specs.Step.{on_support}
 
 -- for each row of Q its product with z, and that plus the cost
@@ -29,7 +29,7 @@ gradient_ops f z = slope_ops f.quadratic f.cost z
 abbrev pub small_ops : Form → List ℚ → List Refused
 small_ops f z =
     elimination_ops (small_width f (support z))
-    (lines_of (solve_rows (small_rows f (support z)) (small_right f (support z) (gradient f.quadratic f.cost z))))
+    (lines_of (solve_rows (small_rows f (support z)) (small_right f (support z) (slope f z))))
 
 -- ---- moves
 

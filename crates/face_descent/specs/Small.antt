@@ -5,9 +5,17 @@ use Rattle.std.specs.Prelude.{◌≡◌, ◌≢◌, ℕ, suc, ◌+◌, List, [],
 use Rattle.rational.specs.Rational.{ℚ, zero_ℚ, neg_ℚ}
 use Rattle.rational.specs.Order.{same_fields}
 use Rattle.rational.specs.Sums.{entry}
-use Rattle.rational.specs.Vectors.{zeros, combine, column, row_at, gradient, pick}
+use Rattle.rational.specs.Vectors.{zeros, combine, column, row_at, gradient, quadratic, pick}
 use Rattle.exact_matrix.specs.EliminationAnswers.{Answer, Solution, solved}
 use Rattle.equational.specs.Form.{Form}
+
+-- what the form asks at z: ½ z^T Q z + c · z + c0
+abbrev pub height : Form → List ℚ → ℚ
+height f z = quadratic f.quadratic f.cost f.constant z
+
+-- its gradient at z: Q z + c
+abbrev pub slope : Form → List ℚ → List ℚ
+slope f z = gradient f.quadratic f.cost z
 
 -- the places of the entries that are not 0, in order, where the first entry stands at place j
 abbrev pub support_from : ℕ → List ℚ → List ℕ
@@ -40,7 +48,7 @@ small_width f S = length S + length f.matrix
 
 -- what the elimination of the small system answers
 abbrev pub small_answer : Form → List ℚ → Answer
-small_answer f z = solved (small_width f (support z)) (small_rows f (support z)) (small_right f (support z) (gradient f.quadratic f.cost z))
+small_answer f z = solved (small_width f (support z)) (small_rows f (support z)) (small_right f (support z) (slope f z))
 
 -- z is stationary on its support: the solution that the elimination finds has e = 0
 pub record IsStationary (f : Form) (z : List ℚ) : Type 0 where
@@ -52,4 +60,4 @@ pub record IsStationary (f : Form) (z : List ℚ) : Type 0 where
 pub record HasMultipliers (n : ℕ) (f : Form) (z : List ℚ) : Type 0 where
   pub multipliers : List ℚ
   pub size : length multipliers ≡ length f.matrix
-  pub same : (j : ℕ) → entry z j ≢ zero_ℚ → entry (combine n multipliers f.matrix) j ≡ entry (gradient f.quadratic f.cost z) j
+  pub same : (j : ℕ) → entry z j ≢ zero_ℚ → entry (combine n multipliers f.matrix) j ≡ entry (slope f z) j

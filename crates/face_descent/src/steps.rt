@@ -4,11 +4,11 @@ ghost use Rattle.std.specs.Prelude.{◌≡◌, ◌<◌, ◌≤◌, ◌↔◌, �
 ghost use Rattle.rational.specs.Rational.{ℚ, one_ℚ, zero_ℚ, neg_ℚ, ◌+ℚ◌, ◌*ℚ◌};
 ghost use Rattle.rational.specs.Order.{◌<ℚ◌, ◌≤ℚ◌};
 ghost use Rattle.rational.specs.Sums.{entry};
-ghost use Rattle.rational.specs.Vectors.{IsSemidefinite, dot, gradient, quadratic, rows_dot, zeros};
+ghost use Rattle.rational.specs.Vectors.{IsSemidefinite, dot, rows_dot, zeros};
 ghost use Rattle.exact_matrix.specs.EliminationAnswers.{Refutation, Solution};
 ghost use Rattle.equational.specs.Form.{Form};
 ghost use Rattle.equational.specs.Solutions.{IsForm, IsFormRay, IsNotNegative, IsSolution};
-ghost use Rattle.face_descent.specs.Small.{IsStationary, small_answer, support};
+ghost use Rattle.face_descent.specs.Small.{IsStationary, height, slope, small_answer, support};
 ghost use Rattle.face_descent.specs.Step.{IsCapped, IsNearest, IsShrinkStep, IsTurned, IsWithin, moved, on_support};
 ghost use Rattle.face_descent.specs.Operations.{nearer, nearest_zero, shrink_ops, turned};
 
@@ -16,8 +16,8 @@ ghost use Rattle.face_descent.specs.Operations.{nearer, nearest_zero, shrink_ops
 /// not rise as far as 1; the point at 1 is stationary.
 pub fn full_step_is_stationary()
     ensures equations { (n : ℕ) (f : Form) (z x : List ℚ) → IsForm n f → IsSemidefinite n f.quadratic → length z ≡ n → small_answer f z ≡ Solution x → rows_dot f.matrix (on_support n z x) ≡ zeros (length f.matrix) }
-    ensures slope { (n : ℕ) (f : Form) (z x : List ℚ) → IsForm n f → IsSemidefinite n f.quadratic → length z ≡ n → small_answer f z ≡ Solution x → dot (on_support n z x) (rows_dot f.quadratic (on_support n z x)) ≡ neg_ℚ (dot (gradient f.quadratic f.cost z) (on_support n z x)) }
-    ensures value { (n : ℕ) (f : Form) (z x : List ℚ) (s : ℚ) → IsForm n f → IsSemidefinite n f.quadratic → length z ≡ n → small_answer f z ≡ Solution x → zero_ℚ ≤ℚ s → s ≤ℚ one_ℚ → quadratic f.quadratic f.cost f.constant (moved z (on_support n z x) s) ≤ℚ quadratic f.quadratic f.cost f.constant z }
+    ensures slope { (n : ℕ) (f : Form) (z x : List ℚ) → IsForm n f → IsSemidefinite n f.quadratic → length z ≡ n → small_answer f z ≡ Solution x → dot (on_support n z x) (rows_dot f.quadratic (on_support n z x)) ≡ neg_ℚ (dot (slope f z) (on_support n z x)) }
+    ensures value { (n : ℕ) (f : Form) (z x : List ℚ) (s : ℚ) → IsForm n f → IsSemidefinite n f.quadratic → length z ≡ n → small_answer f z ≡ Solution x → zero_ℚ ≤ℚ s → s ≤ℚ one_ℚ → height f (moved z (on_support n z x) s) ≤ℚ height f z }
     ensures stationary { (n : ℕ) (f : Form) (z x : List ℚ) → IsForm n f → IsSemidefinite n f.quadratic → length z ≡ n → small_answer f z ≡ Solution x → IsStationary f (moved z (on_support n z x) one_ℚ) }
 {}
 
@@ -26,9 +26,9 @@ pub fn full_step_is_stationary()
 pub fn refuted_step_falls()
     ensures equations { (n : ℕ) (f : Form) (z w d : List ℚ) (v : ℚ) → IsForm n f → IsSemidefinite n f.quadratic → length z ≡ n → small_answer f z ≡ Refutation w v → IsTurned v (on_support n z w) d → rows_dot f.matrix d ≡ zeros (length f.matrix) }
     ensures flat { (n : ℕ) (f : Form) (z w d : List ℚ) (v : ℚ) → IsForm n f → IsSemidefinite n f.quadratic → length z ≡ n → small_answer f z ≡ Refutation w v → IsTurned v (on_support n z w) d → rows_dot f.quadratic d ≡ zeros n }
-    ensures slope { (n : ℕ) (f : Form) (z w d : List ℚ) (v : ℚ) → IsForm n f → IsSemidefinite n f.quadratic → length z ≡ n → small_answer f z ≡ Refutation w v → IsTurned v (on_support n z w) d → dot (gradient f.quadratic f.cost z) d <ℚ zero_ℚ }
-    ensures value { (n : ℕ) (f : Form) (z w d : List ℚ) (v s : ℚ) → IsForm n f → IsSemidefinite n f.quadratic → length z ≡ n → small_answer f z ≡ Refutation w v → IsTurned v (on_support n z w) d → quadratic f.quadratic f.cost f.constant (moved z d s) ≡ quadratic f.quadratic f.cost f.constant z +ℚ s *ℚ dot (gradient f.quadratic f.cost z) d }
-    ensures falls { (n : ℕ) (f : Form) (z w d : List ℚ) (v s : ℚ) → IsForm n f → IsSemidefinite n f.quadratic → length z ≡ n → small_answer f z ≡ Refutation w v → IsTurned v (on_support n z w) d → zero_ℚ <ℚ s → quadratic f.quadratic f.cost f.constant (moved z d s) <ℚ quadratic f.quadratic f.cost f.constant z }
+    ensures slope { (n : ℕ) (f : Form) (z w d : List ℚ) (v : ℚ) → IsForm n f → IsSemidefinite n f.quadratic → length z ≡ n → small_answer f z ≡ Refutation w v → IsTurned v (on_support n z w) d → dot (slope f z) d <ℚ zero_ℚ }
+    ensures value { (n : ℕ) (f : Form) (z w d : List ℚ) (v s : ℚ) → IsForm n f → IsSemidefinite n f.quadratic → length z ≡ n → small_answer f z ≡ Refutation w v → IsTurned v (on_support n z w) d → height f (moved z d s) ≡ height f z +ℚ s *ℚ dot (slope f z) d }
+    ensures falls { (n : ℕ) (f : Form) (z w d : List ℚ) (v s : ℚ) → IsForm n f → IsSemidefinite n f.quadratic → length z ≡ n → small_answer f z ≡ Refutation w v → IsTurned v (on_support n z w) d → zero_ℚ <ℚ s → height f (moved z d s) <ℚ height f z }
     ensures zero { (n : ℕ) (f : Form) (z w d : List ℚ) (v : ℚ) → IsForm n f → IsSemidefinite n f.quadratic → length z ≡ n → small_answer f z ≡ Refutation w v → IsTurned v (on_support n z w) d → ((r : List ℚ) → ¬ (IsFormRay f r)) → (s : ℚ) × IsNearest z d s }
 {}
 

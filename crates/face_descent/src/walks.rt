@@ -4,10 +4,10 @@ ghost use Rattle.std.specs.Prelude.{◌≡◌, ◌<◌, ◌≤◌, ◌+◌, ◌�
 ghost use Rattle.rational.specs.Rational.{ℚ, one_ℚ, zero_ℚ};
 ghost use Rattle.rational.specs.Order.{◌<ℚ◌, ◌≤ℚ◌};
 ghost use Rattle.rational.specs.Sums.{entry};
-ghost use Rattle.rational.specs.Vectors.{IsSemidefinite, quadratic};
+ghost use Rattle.rational.specs.Vectors.{IsSemidefinite};
 ghost use Rattle.equational.specs.Form.{Form};
 ghost use Rattle.equational.specs.Solutions.{IsForm, IsFormRay, IsSolution};
-ghost use Rattle.face_descent.specs.Small.{IsStationary, support};
+ghost use Rattle.face_descent.specs.Small.{IsStationary, height, support};
 ghost use Rattle.face_descent.specs.Step.{AreShrinkSteps, IsRefutedStep, IsShrinkStep, IsSolvedStep, newest_point, measure};
 ghost use Rattle.face_descent.specs.Worked.{n, valley_form};
 
@@ -16,12 +16,12 @@ ghost use Rattle.face_descent.specs.Worked.{n, valley_form};
 /// a refuted one, whose value falls. So the measure falls at each. A stationary point has no step; each other has one, where the form has no ray.
 pub fn shrink_steps_fall()
     ensures solution { (n : ℕ) (f : Form) (z next : List ℚ) → IsForm n f → IsSemidefinite n f.quadratic → IsSolution f z → IsShrinkStep n f z next → IsSolution f next }
-    ensures value { (n : ℕ) (f : Form) (z next : List ℚ) → IsForm n f → IsSemidefinite n f.quadratic → IsSolution f z → IsShrinkStep n f z next → quadratic f.quadratic f.cost f.constant next ≤ℚ quadratic f.quadratic f.cost f.constant z }
+    ensures value { (n : ℕ) (f : Form) (z next : List ℚ) → IsForm n f → IsSemidefinite n f.quadratic → IsSolution f z → IsShrinkStep n f z next → height f next ≤ℚ height f z }
     ensures support { (n : ℕ) (f : Form) (z next : List ℚ) → IsForm n f → IsSemidefinite n f.quadratic → IsSolution f z → IsShrinkStep n f z next → (j : ℕ) → entry z j ≡ zero_ℚ → entry next j ≡ zero_ℚ }
     ensures full { (n : ℕ) (f : Form) (z next : List ℚ) → IsForm n f → IsSemidefinite n f.quadratic → IsSolution f z → (h : IsSolvedStep n f z next) → h.step ≡ one_ℚ → IsStationary f next }
     ensures short { (n : ℕ) (f : Form) (z next : List ℚ) → IsForm n f → IsSemidefinite n f.quadratic → IsSolution f z → (h : IsSolvedStep n f z next) → ¬ (h.step ≡ one_ℚ) → length (support next) < length (support z) }
     ensures refuted { (n : ℕ) (f : Form) (z next : List ℚ) → IsForm n f → IsSemidefinite n f.quadratic → IsSolution f z → IsRefutedStep n f z next → length (support next) < length (support z) }
-    ensures falls { (n : ℕ) (f : Form) (z next : List ℚ) → IsForm n f → IsSemidefinite n f.quadratic → IsSolution f z → IsRefutedStep n f z next → quadratic f.quadratic f.cost f.constant next <ℚ quadratic f.quadratic f.cost f.constant z }
+    ensures falls { (n : ℕ) (f : Form) (z next : List ℚ) → IsForm n f → IsSemidefinite n f.quadratic → IsSolution f z → IsRefutedStep n f z next → height f next <ℚ height f z }
     ensures measure { (n : ℕ) (f : Form) (z next : List ℚ) → IsForm n f → IsSemidefinite n f.quadratic → IsSolution f z → IsShrinkStep n f z next → measure f next < measure f z }
     ensures stationary { (n : ℕ) (f : Form) (z next : List ℚ) → IsForm n f → IsSemidefinite n f.quadratic → IsSolution f z → IsStationary f z → IsShrinkStep n f z next → ⊥ }
     ensures some { (n : ℕ) (f : Form) (z : List ℚ) → IsForm n f → IsSemidefinite n f.quadratic → IsSolution f z → ((r : List ℚ) → ¬ (IsFormRay f r)) → IsStationary f z ⊎ ((next : List ℚ) × IsShrinkStep n f z next) }
@@ -32,7 +32,7 @@ pub fn shrink_steps_fall()
 /// ends at a stationary point. A worked one: (x + y - 2)^2 shrinks from (1, 0) to (2, 0), on the first column alone.
 pub fn shrink_steps_end()
     ensures solution { (n : ℕ) (f : Form) (z : List ℚ) (points : List (List ℚ)) → IsForm n f → IsSemidefinite n f.quadratic → IsSolution f z → AreShrinkSteps n f z points → IsSolution f (newest_point z points) }
-    ensures value { (n : ℕ) (f : Form) (z : List ℚ) (points : List (List ℚ)) → IsForm n f → IsSemidefinite n f.quadratic → IsSolution f z → AreShrinkSteps n f z points → quadratic f.quadratic f.cost f.constant (newest_point z points) ≤ℚ quadratic f.quadratic f.cost f.constant z }
+    ensures value { (n : ℕ) (f : Form) (z : List ℚ) (points : List (List ℚ)) → IsForm n f → IsSemidefinite n f.quadratic → IsSolution f z → AreShrinkSteps n f z points → height f (newest_point z points) ≤ℚ height f z }
     ensures support { (n : ℕ) (f : Form) (z : List ℚ) (points : List (List ℚ)) → IsForm n f → IsSemidefinite n f.quadratic → IsSolution f z → AreShrinkSteps n f z points → (j : ℕ) → entry z j ≡ zero_ℚ → entry (newest_point z points) j ≡ zero_ℚ }
     ensures bounded { (n : ℕ) (f : Form) (z : List ℚ) (points : List (List ℚ)) → IsForm n f → IsSemidefinite n f.quadratic → IsSolution f z → AreShrinkSteps n f z points → measure f (newest_point z points) + length points ≤ measure f z }
     ensures few { (n : ℕ) (f : Form) (z : List ℚ) (points : List (List ℚ)) → IsForm n f → IsSemidefinite n f.quadratic → IsSolution f z → AreShrinkSteps n f z points → length points ≤ length (support z) }

@@ -18,8 +18,8 @@ use Rattle.rational.proofs.Supports.{length-put_at, put_at_off}
 use Rattle.linear_basis.specs.Problem as linear
 use Rattle.equational.specs.Form.{Form}
 use Rattle.equational.specs.Solutions.{IsForm, IsSolution}
-use Rattle.face_descent.specs.Small.{support}
-use Rattle.quad_solve.specs.Problems.{price_problem, price_rows, slope, doubled, direction}
+use Rattle.face_descent.specs.Small.{slope, support}
+use Rattle.quad_solve.specs.Problems.{price_problem, price_rows, doubled, direction}
 use Rattle.quad_solve.specs.Steps.{LeadsDown}
 use Rattle.quad_solve.proofs.Lists.{parts_same, only_same, dot-negated, length-negated, entry-negated, length-taken}
 use Rattle.quad_solve.proofs.Doubled.{wide_doubled, rows_dot-doubled, length-difference, off_places}

@@ -19,9 +19,9 @@ use Rattle.rational.proofs.Supports.{length-pick, put_at-pick}
 use Rattle.linear_basis.specs.Problem as linear
 use Rattle.equational.specs.Form.{Form}
 use Rattle.equational.specs.Solutions.{IsForm, IsSolution}
-use Rattle.face_descent.specs.Small.{support, support_from}
+use Rattle.face_descent.specs.Small.{slope, support, support_from}
 use Rattle.face_descent.proofs.Supports.{off_support, support_below}
-use Rattle.quad_solve.specs.Problems.{price_problem, price_rows, slope, doubled, direction, difference}
+use Rattle.quad_solve.specs.Problems.{price_problem, price_rows, doubled, direction, difference}
 use Rattle.quad_solve.specs.Steps.{LeadsDown}
 use Rattle.quad_solve.proofs.Lists.{dot-negated}
 use Rattle.quad_solve.proofs.Doubled.{rows_dot-doubled, from_first}

@@ -15,11 +15,10 @@ use Rattle.linear_basis.proofs.Places.{same_or_other}
 use Rattle.linear_simplex.proofs.Sets.{few, code, code_below, same_code, same_sets, contains_or, AreDistinct, AreBelow}
 use Rattle.equational.specs.Form.{Form}
 use Rattle.equational.specs.Solutions.{IsForm, IsSolution}
-use Rattle.face_descent.specs.Small.{support, IsStationary}
+use Rattle.face_descent.specs.Small.{IsStationary, height, slope, support}
 use Rattle.face_descent.proofs.Supports.{off_support, support_below, support_nonzero}
 use Rattle.face_descent.proofs.Stationary.{multipliers_of}
-use Rattle.quad_solve.specs.Problems.{slope}
-use Rattle.quad_solve.specs.Steps.{LeadsDown, HaveSameSupport, height}
+use Rattle.quad_solve.specs.Steps.{LeadsDown, HaveSameSupport}
 use Rattle.quad_solve.proofs.Doubled.{off_places}
 use Rattle.quad_solve.proofs.Stationary.{no_slope, lesser_differs}
 

@@ -1,115 +1,115 @@
--- There is a price step, and its length is told by the direction.
-use Rattle.std.proofs.Common.{◌≡◌, refl, sym, ◌∙◌, subst, ℕ, zero, suc, ◌⊎◌, inl, inr, ⊎_elim, List, [], ◌∷◌}
-use Rattle.std.specs.Prelude.{All}
-use Rattle.std.proofs.lemmas.List.Elements.{All-nil, All-cons}
-use Rattle.algebra.proofs.Polynomial.{minus, ◌⊕◌, ◌⊗◌, ◌≐◌, ◌≼◌, ◌≺◌, lit}
-use Rattle.algebra.proofs.Certificate.{prove, given, scaled, ◌⊞◌, ◌⊠◌, ◌⇐◌}
-use Rattle.rational.specs.Rational.{ℚ, zero_ℚ, one_ℚ, neg_ℚ, reciprocal, ◌+ℚ◌, ◌*ℚ◌}
-use Rattle.rational.specs.Order.{◌≤ℚ◌, ◌<ℚ◌}
-use Rattle.rational.specs.Sums.{entry}
+-- There is a price step, and its length is told by the direction; how it is computed.
+use Rattle.std.proofs.Common.{◌≡◌, ◌≢◌, refl, sym, ◌∙◌, ap, subst, ℕ, inl, inr, ⊎_elim, Bool, true, false, List, [], ◌∷◌, length, if◌then◌else◌}
+use Rattle.std.specs.Prelude.{Option, Some, None, ◌↔◌}
+use Rattle.algebra.proofs.Polynomial.{minus, ◌⊗◌, ◌≐◌, ◌≼◌, ◌≺◌, lit}
+use Rattle.algebra.proofs.Certificate.{prove, given, scaled, weight, ◌⊞◌, ◌⊠◌, ◌⇐◌}
+use Rattle.rational.specs.Rational.{ℚ, zero_ℚ, one_ℚ, ◌*ℚ◌, ◌/ℚ◌}
+use Rattle.rational.specs.Order.{◌≤ℚ◌, same_fields, same_fields_lem, differ_of_same_fields}
 use Rattle.rational.specs.Vectors.{IsSemidefinite}
-use Rattle.rational.proofs.Field.{mul-reciprocal}
-use Rattle.rational.proofs.Order.{ordered_rationals, le_or_lt, lt_le, lt_irrefl, le_antisymm, whole_positive}
-use Rattle.rational.proofs.OrderLaws.{not-le_of_lt, le_of_eq, ne_of_lt}
+use Rattle.rational.proofs.Order.{ordered_rationals, div-mul_cancel, lt_irrefl, lt_le, le_antisymm}
+use Rattle.rational.proofs.OrderLaws.{le_trans, le_of_eq}
+use Rattle.program_law.specs.Tests.{is_le}
+use Rattle.program_law.proofs.Numbers.{le_tested, lt_tested}
 use Rattle.equational.specs.Form.{Form}
 use Rattle.equational.specs.Solutions.{IsForm, IsSolution, IsFormRay}
+use Rattle.face_descent.specs.Step.{IsWithin, IsNearest}
+use Rattle.face_descent.specs.Operations.{nearer, nearest_zero}
+use Rattle.face_descent.proofs.OneStep.{IsToldNearest, nearest_told}
 use Rattle.quad_solve.specs.Steps.{LeadsDown, IsPriceStep, curvature}
-use Rattle.quad_solve.proofs.Descents.{entry_nonneg}
-use Rattle.quad_solve.proofs.Moves.{flat_lessens}
+use Rattle.quad_solve.specs.Operations.{price_length}
+use Rattle.quad_solve.proofs.Moves.{step_goes, flat_lessens}
 
--- the nearest zero of z + s d
-record Nearest (z : ℕ → ℚ) (d : List ℚ) : Type 0 where
-  s : ℚ
-  kept : (j : ℕ) → entry d j <ℚ zero_ℚ → zero_ℚ ≤ℚ (z j +ℚ s *ℚ entry d j)
-  at : ℕ
-  below : entry d at <ℚ zero_ℚ
-  met : z at +ℚ s *ℚ entry d at ≡ zero_ℚ
+none_is_not_some : (s : ℚ) → None ≡ Some s → ⊥
+none_is_not_some s e = cc
 
--- what is not below 0 after a step isn't after a shorter one
-shorter : (x a s t : ℚ) → a <ℚ zero_ℚ → s ≤ℚ t → zero_ℚ ≤ℚ (x +ℚ t *ℚ a) → zero_ℚ ≤ℚ (x +ℚ s *ℚ a)
-shorter x a s t b l h = prove ordered_rationals (x ∷ a ∷ s ∷ t ∷ [])
-    (λ x a s t. lit 0 ≼ x ⊕ s ⊗ a ⇐ given (lit 0 ≼ x ⊕ t ⊗ a) ⊞ (given (s ≼ t) ⊠ given (a ≼ lit 0))) refl h l (lt_le a zero_ℚ b)
+of_some : {s t : ℚ} → Some s ≡ Some t → s ≡ t
+of_some e = cc
 
--- a step after which x becomes 0
-zero_step : (x a : ℚ) → a <ℚ zero_ℚ → (s : ℚ) × (x +ℚ s *ℚ a ≡ zero_ℚ)
-zero_step x a b = (
-  neg_ℚ x *ℚ reciprocal a,
-  prove ordered_rationals (x ∷ a ∷ reciprocal a ∷ []) (λ x a i. x ⊕ minus x ⊗ i ⊗ a ≐ lit 0 ⇐ scaled (minus x) (a ⊗ i) (lit 1)) refl
-      (mul-reciprocal a (λ e. lt_irrefl zero_ℚ (subst (λ t. t <ℚ zero_ℚ) e b))),
-)
+one_is_not_zero : (s h : ℚ) → h ≡ zero_ℚ → s *ℚ h ≡ one_ℚ → ⊥
+one_is_not_zero s h e k = lt_irrefl zero_ℚ (prove ordered_rationals (s ∷ h ∷ []) (λ s h. lit 0 ≺ lit 0 ⇐ scaled s h (lit 0) ⊞ given (lit 1 ≐ s ⊗ h) ⊞ weight 1) refl e (sym k))
 
-nearest : (z : ℕ → ℚ) (d : List ℚ) → (All (λ x. zero_ℚ ≤ℚ x) d) ⊎ Nearest z d
-nearest z [] = inl (All-nil (λ x. zero_ℚ ≤ℚ x))
-nearest z (a ∷ d) = by (le_or_lt zero_ℚ a) (nearest (λ j. z (suc j)) d)
-  where
-    later : (n : Nearest (λ j. z (suc j)) d) → (a <ℚ zero_ℚ → zero_ℚ ≤ℚ (z 0 +ℚ n.s *ℚ a)) → Nearest z (a ∷ d)
-    later n h = record { s = n.s; kept = kept; at = suc n.at; below = n.below; met = n.met }
-      where
-        kept : (j : ℕ) → entry (a ∷ d) j <ℚ zero_ℚ → zero_ℚ ≤ℚ (z j +ℚ n.s *ℚ entry (a ∷ d) j)
-        kept zero b = h b
-        kept (suc j) b = n.kept j b
-
-    here : (s : ℚ) → a <ℚ zero_ℚ → z 0 +ℚ s *ℚ a ≡ zero_ℚ → ((j : ℕ) → entry d j <ℚ zero_ℚ → zero_ℚ ≤ℚ (z (suc j) +ℚ s *ℚ entry d j)) → Nearest z (a ∷ d)
-    here s b e h = record { s = s; kept = kept; at = 0; below = b; met = e }
-      where
-        kept : (j : ℕ) → entry (a ∷ d) j <ℚ zero_ℚ → zero_ℚ ≤ℚ (z j +ℚ s *ℚ entry (a ∷ d) j)
-        kept zero c = le_of_eq (sym e)
-        kept (suc j) c = h j c
-
-    by : (zero_ℚ ≤ℚ a) ⊎ (a <ℚ zero_ℚ) → (All (λ x. zero_ℚ ≤ℚ x) d) ⊎ Nearest (λ j. z (suc j)) d → (All (λ x. zero_ℚ ≤ℚ x) (a ∷ d)) ⊎ Nearest z (a ∷ d)
-    by (inl h) (inl k) = inl (All-cons (λ x. zero_ℚ ≤ℚ x) a d h k)
-    by (inl h) (inr n) = inr (later n (λ b. absurd (not-le_of_lt b h)))
-    by (inr b) (inl k) = let first = zero_step (z 0) a b in inr (here first.0 b first.1 (λ j c. absurd (not-le_of_lt c (entry_nonneg d k j))))
-    by (inr b) (inr n) =
-        let first = zero_step (z 0) a b in
-        ⊎_elim (λ l. inr (here first.0 b first.1 (λ j c. shorter (z (suc j)) (entry d j) first.0 n.s c l (n.kept j c))))
-        (λ l. inr (later n (λ c. shorter (z 0) a n.s first.0 b (lt_le n.s first.0 l) (le_of_eq (sym first.1))))) (le_or_lt first.0 n.s)
-
+-- no step is longer than another, so there is only one
 module _ (n : ℕ) (f : Form) (z d : List ℚ) (form : IsForm n f) (semi : IsSemidefinite n f.quadratic) (down : LeadsDown f z d) where
-  curved : zero_ℚ ≤ℚ curvature f d
-  curved = semi.nonneg d (down.size ∙ form.cost)
-
-  step_to : (m : Nearest (entry z) d) → (m.s *ℚ curvature f d) ≤ℚ one_ℚ → (s : ℚ) × IsPriceStep f z d s
-  step_to m h = (m.s, record { zeros = m.kept; minimum = h; met = inl (m.at, m.below, m.met) })
-
-  pub some_step : IsSolution f z → ¬ (IsFormRay f d) → (s : ℚ) × IsPriceStep f z d s
-  some_step at none = by (le_or_lt (curvature f d) zero_ℚ) (nearest (entry z) d)
-    where
-      by : (curvature f d ≤ℚ zero_ℚ) ⊎ (zero_ℚ <ℚ curvature f d) → (All (λ x. zero_ℚ ≤ℚ x) d) ⊎ Nearest (entry z) d → (s : ℚ) × IsPriceStep f z d s
-      by (inl k) (inl all) =
-          let some = flat_lessens n f z d form semi down at (le_antisymm (curvature f d) zero_ℚ k curved) none in
-          absurd (not-le_of_lt some.1 (entry_nonneg d all some.0))
-      by (inl k) (inr m) = step_to m
-          (prove ordered_rationals (m.s ∷ curvature f d ∷ []) (λ s k. s ⊗ k ≼ lit 1 ⇐ scaled s k (lit 0) ⊞ Rattle.algebra.proofs.Certificate.weight 1) refl
-          (le_antisymm (curvature f d) zero_ℚ k curved))
-      by (inr p) near =
-          let c = reciprocal (curvature f d) in
-          let one : c *ℚ curvature f d ≡ one_ℚ =
-          prove ordered_rationals (c ∷ curvature f d ∷ []) (λ c k. c ⊗ k ≐ lit 1 ⇐ given (k ⊗ c ≐ lit 1)) refl (mul-reciprocal (curvature f d) (ne_of_lt p)) in
-          ⊎_elim
-          (λ all. (c, record { zeros = λ j b. absurd (not-le_of_lt b (entry_nonneg d all j)); minimum = le_of_eq one; met = inr one }))
-          (λ m. ⊎_elim
-          (λ l. step_to m (prove ordered_rationals (m.s ∷ c ∷ curvature f d ∷ [])
-          (λ s c k. s ⊗ k ≼ lit 1 ⇐ (given (s ≼ c) ⊠ given (lit 0 ≼ k)) ⊞ given (c ⊗ k ≐ lit 1)) refl l curved one))
-          (λ l. (c, record { zeros = λ j b. shorter (entry z j) (entry d j) c m.s b (lt_le c m.s l) (m.kept j b); minimum = le_of_eq one; met = inr one }))
-          (le_or_lt m.s c))
-          near
-
-  -- no step is longer than another
-  no_longer : (s t : ℚ) → IsPriceStep f z d s → IsPriceStep f z d t → t ≤ℚ s
-  no_longer s t one other = ⊎_elim (λ l. l) (λ l. absurd (by l one.met)) (le_or_lt t s)
-    where
-      by : s <ℚ t → ((j : ℕ) × (entry d j <ℚ zero_ℚ) × (entry z j +ℚ s *ℚ entry d j ≡ zero_ℚ)) ⊎ (s *ℚ curvature f d ≡ one_ℚ) → ⊥
-      by l (inl m) = not-le_of_lt
-          (prove ordered_rationals (s ∷ t ∷ entry z m.0 ∷ entry d m.0 ∷ [])
-          (λ s t z d. z ⊕ t ⊗ d ≺ lit 0 ⇐ given (z ⊕ s ⊗ d ≐ lit 0) ⊞ (given (s ≺ t) ⊠ given (d ≺ lit 0))) refl m.2 l m.1)
-          (other.zeros m.0 m.1)
-      by l (inr e) = ⊎_elim
-          (λ k. not-le_of_lt (whole_positive 0) (prove ordered_rationals (s ∷ curvature f d ∷ [])
-          (λ s k. lit 1 ≼ lit 0 ⇐ scaled (minus (lit 1)) (s ⊗ k) (lit 1) ⊞ scaled s k (lit 0)) refl e (le_antisymm (curvature f d) zero_ℚ k curved)))
-          (λ k. not-le_of_lt (prove ordered_rationals (s ∷ t ∷ curvature f d ∷ [])
-          (λ s t k. lit 1 ≺ t ⊗ k ⇐ scaled (minus (lit 1)) (s ⊗ k) (lit 1) ⊞ (given (s ≺ t) ⊠ given (lit 0 ≺ k))) refl e l k) other.minimum)
-          (le_or_lt (curvature f d) zero_ℚ)
+  no_longer : (s t : ℚ) → IsPriceStep f z d s → IsPriceStep f z d t → s ≤ℚ t
+  no_longer s t one other = ⊎_elim (λ m. subst (λ r. s ≤ℚ r) (sym m.there) (one.within m.place m.falls))
+      (λ e. prove ordered_rationals (s ∷ t ∷ curvature f d ∷ [])
+      (λ s t h. s ≼ t ⇐ (given (lit 0 ≼ t) ⊠ given (s ⊗ h ≼ lit 1)) ⊞ scaled (minus s) (t ⊗ h) (lit 1)) refl
+      (lt_le zero_ℚ t (step_goes n f z d form semi down t other)) one.minimum e) other.met
 
   pub one_step : (s t : ℚ) → IsPriceStep f z d s → IsPriceStep f z d t → s ≡ t
-  one_step s t one other = le_antisymm s t (no_longer t s other one) (no_longer s t one other)
+  one_step s t one other = le_antisymm s t (no_longer s t one other) (no_longer t s other one)
+
+module _ (n : ℕ) (f : Form) (z d : List ℚ) (form : IsForm n f) (semi : IsSemidefinite n f.quadratic) (at : IsSolution f z) (down : LeadsDown f z d) where
+  abbrev h : ℚ
+  h = curvature f d
+
+  long : length d ≡ n
+  long = down.size ∙ form.cost
+
+  wide : length z ≡ n
+  wide = at.width ∙ form.cost
+
+  curved : zero_ℚ ≤ℚ h
+  curved = semi.nonneg d long
+
+  to_zero : (s : ℚ) → IsNearest z d s → (s *ℚ h) ≤ℚ one_ℚ → IsPriceStep f z d s
+  to_zero s k l = record { within = k.within; minimum = l; met = inl k }
+
+  module _ (bent : h ≢ zero_ℚ) where
+    abbrev limit : ℚ
+    limit = one_ℚ /ℚ h
+
+    limit_is : limit *ℚ h ≡ one_ℚ
+    limit_is = div-mul_cancel one_ℚ h bent
+
+    to_minimum : IsWithin z d limit → IsPriceStep f z d limit
+    to_minimum w = record { within = w; minimum = le_of_eq limit_is; met = inr limit_is }
+
+    before : (t : ℚ) → t ≤ℚ limit → (t *ℚ h) ≤ℚ one_ℚ
+    before t l = prove ordered_rationals (t ∷ limit ∷ h ∷ []) (λ t l h. t ⊗ h ≼ lit 1 ⇐ (given (t ≼ l) ⊠ given (lit 0 ≼ h)) ⊞ scaled (lit 1) (l ⊗ h) (lit 1)) refl l curved limit_is
+
+    bent_step : (o : Option ℚ) → IsToldNearest z d o → IsPriceStep f z d (nearer limit o)
+    bent_step None k = to_minimum (λ j b. absurd (k j b))
+    bent_step (Some t) k = by (is_le limit t) refl
+      where
+        by : (b : Bool) → is_le limit t ≡ b → IsPriceStep f z d (if b then limit else t)
+        by true e = to_minimum (λ j b. le_trans (le_tested limit t e) (k.within j b))
+        by false e = to_zero t k (before t (lt_le t limit (lt_tested limit t e)))
+
+  -- what the length says: there is no price step, or it is one of this length
+  abbrev IsToldLength : Option ℚ → Type 0
+  IsToldLength None = (s : ℚ) → ¬ (IsPriceStep f z d s)
+  IsToldLength (Some s) = IsPriceStep f z d s
+
+  flat_step : h ≡ zero_ℚ → (o : Option ℚ) → IsToldNearest z d o → IsToldLength o
+  flat_step flat None k = λ s step. ⊎_elim (λ m. k m.place m.falls) (λ e. one_is_not_zero s h flat e) step.met
+  flat_step flat (Some t) k = to_zero t k (prove ordered_rationals (t ∷ h ∷ []) (λ t h. t ⊗ h ≼ lit 1 ⇐ scaled t h (lit 0) ⊞ weight 1) refl flat)
+
+  length_told : IsToldLength (price_length h z d)
+  length_told = by (same_fields h zero_ℚ) refl
+    where
+      told : IsToldNearest z d (nearest_zero z d)
+      told = nearest_told z d (wide ∙ sym long)
+
+      by : (b : Bool) → same_fields h zero_ℚ ≡ b → IsToldLength (if b then nearest_zero z d else Some (nearer (one_ℚ /ℚ h) (nearest_zero z d)))
+      by true e = flat_step (same_fields_lem h zero_ℚ e) (nearest_zero z d) told
+      by false e = bent_step (differ_of_same_fields h zero_ℚ e) (nearest_zero z d) told
+
+  -- without a ray there is one
+  pub some_step : ¬ (IsFormRay f d) → (s : ℚ) × IsPriceStep f z d s
+  some_step none = by (same_fields h zero_ℚ) refl (nearest_zero z d) (nearest_told z d (wide ∙ sym long))
+    where
+      flat_some : h ≡ zero_ℚ → (o : Option ℚ) → IsToldNearest z d o → (s : ℚ) × IsPriceStep f z d s
+      flat_some e None k = let some = flat_lessens n f z d form semi down at e none in absurd (k some.0 some.1)
+      flat_some e (Some t) k = (t, flat_step e (Some t) k)
+
+      by : (b : Bool) → same_fields h zero_ℚ ≡ b → (o : Option ℚ) → IsToldNearest z d o → (s : ℚ) × IsPriceStep f z d s
+      by true e o k = flat_some (same_fields_lem h zero_ℚ e) o k
+      by false e o k = (nearer (one_ℚ /ℚ h) o, bent_step (differ_of_same_fields h zero_ℚ e) o k)
+
+  pub length_is : (s : ℚ) → IsPriceStep f z d s ↔ (price_length h z d ≡ Some s)
+  length_is s = (by (price_length h z d) length_told, λ e. subst IsToldLength e length_told)
+    where
+      by : (o : Option ℚ) → IsToldLength o → IsPriceStep f z d s → o ≡ Some s
+      by None k step = absurd (k s step)
+      by (Some t) k step = ap Some (one_step n f z d form semi down t s k step)

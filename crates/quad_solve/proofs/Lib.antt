@@ -16,7 +16,6 @@ pub mod RegionAnswers
 pub mod SomeAnswer
 pub mod RegionRays
 pub mod SpentSites
-pub mod PriceLength
 pub mod OneAnswer
 pub mod ValueOps
 pub mod Tested

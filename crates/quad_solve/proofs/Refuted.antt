@@ -18,8 +18,8 @@ use Rattle.linear_basis.proofs.Verdicts.{not_both}
 use Rattle.equational.specs.Form.{Form}
 use Rattle.equational.specs.Solutions.{IsForm}
 use Rattle.equational.specs.Optimal.{IsOptimality}
-use Rattle.face_descent.specs.Small.{support, HasMultipliers}
-use Rattle.quad_solve.specs.Problems.{price_problem, price_rows, price_multipliers, last_number, slope}
+use Rattle.face_descent.specs.Small.{HasMultipliers, slope, support}
+use Rattle.quad_solve.specs.Problems.{price_problem, price_rows, price_multipliers, last_number}
 use Rattle.quad_solve.proofs.Lists.{entry-negated, length-taken, with_last, front_all, back_all, over_is_scale}
 use Rattle.quad_solve.proofs.Doubled.{combine-doubled, on_places}
 use Rattle.quad_solve.proofs.Descents.{entry_nonneg, wide_prices, prices_form_a_problem}

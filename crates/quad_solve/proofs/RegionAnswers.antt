@@ -25,8 +25,9 @@ use Rattle.equational.proofs.FarkasBack.{farkas_back}
 use Rattle.equational.proofs.BoundBack.{bound_back}
 use Rattle.equational.proofs.Shapes.{shape, semidefinite}
 use Rattle.face_descent.proofs.Directions.{half_nonneg}
-use Rattle.quad_solve.specs.Problems.{feasible_problem, ray_problem, price_problem, price_multipliers, slope}
-use Rattle.quad_solve.specs.Steps.{height, curvature}
+use Rattle.face_descent.specs.Small.{height, slope}
+use Rattle.quad_solve.specs.Problems.{feasible_problem, ray_problem, price_problem, price_multipliers}
+use Rattle.quad_solve.specs.Steps.{curvature}
 use Rattle.quad_solve.specs.Answer.{IsFound, IsEmpty, IsFalling, IsBest}
 use Rattle.quad_solve.proofs.Decided.{solved_is_solution, refuted_is_farkas, not_both_ends}
 use Rattle.quad_solve.proofs.Descents.{prices_form_a_problem, length-slope, entry_nonneg}

@@ -15,10 +15,9 @@ use Rattle.rational.proofs.Forms.{mean_gradient}
 use Rattle.linear_basis.proofs.Verdicts.{dot-zero}
 use Rattle.equational.specs.Form.{Form}
 use Rattle.equational.specs.Solutions.{IsForm, IsSolution}
-use Rattle.quad_solve.specs.Problems.{slope}
-use Rattle.face_descent.specs.Small.{HasMultipliers, IsStationary}
+use Rattle.face_descent.specs.Small.{HasMultipliers, IsStationary, height, slope}
 use Rattle.face_descent.proofs.Stationary.{multipliers_of}
-use Rattle.quad_solve.specs.Steps.{HaveSameSupport, height}
+use Rattle.quad_solve.specs.Steps.{HaveSameSupport}
 use Rattle.quad_solve.proofs.Descents.{length-slope}
 
 -- a point with multipliers has no slope along a direction that M takes to 0 and that is 0 where the point is

@@ -31,7 +31,7 @@ use Rattle.quad_solve.specs.Answer.{IsBest}
 use Rattle.quad_solve.specs.Operations.{price_length}
 use Rattle.quad_solve.proofs.Few.{past_the_end, below_or}
 use Rattle.quad_solve.proofs.WalkSteps.{priced_down, start_solves, goes_further}
-use Rattle.quad_solve.proofs.PriceLength.{length_is}
+use Rattle.quad_solve.proofs.Lengths.{length_is}
 
 both : (a b : Bool) → (a && b) ≡ true → (a ≡ true) × (b ≡ true)
 both true b e = (refl, e)
@@ -196,18 +196,26 @@ module _ (p : Problem) (b : Tableau) where
         prices = λ j l h. none (below_negative (price p b j) h) (each_below (λ j. not (is_negative (price p b j))) p.given parts.1 j l);
       }
 
--- the step from b by column j at place l goes to c, where the unit column at k costs something
-abbrev pub steps_to : Problem → Tableau → ℕ → ℕ → ℕ → List (List ℚ) → Bool
-steps_to p b k j l N = costs_at p b k && (enters p b j && (leaves p b j l && same_rows (exchanged p b j l).inverse N))
+-- a strict step: the unit column at k costs something, and column j comes in at the place l
+pub record Pivot : Type 0 where
+  pub costly : ℕ
+  pub enter : ℕ
+  pub leave : ℕ
 
-pub stepped : (p : Problem) → IsProblem p → (b : Tableau) → IsBasis p b → IsStanding p b → (k j l : ℕ) (N : List (List ℚ)) → steps_to p b k j l N ≡ true
-    → IsStrictStep p b (record { columns = (exchanged p b j l).columns; inverse = N })
-stepped p problem b basis standing k j l N e =
-    let first = both (costs_at p b k) (enters p b j && (leaves p b j l && same_rows (exchanged p b j l).inverse N)) e in
-    let second = both (enters p b j) (leaves p b j l && same_rows (exchanged p b j l).inverse N) first.1 in
-    let third = both (leaves p b j l) (same_rows (exchanged p b j l).inverse N) second.1 in
-    subst (λ M. IsStrictStep p b (record { columns = (exchanged p b j l).columns; inverse = M })) (rows_are (exchanged p b j l).inverse N third.1)
-    (ratio_steps p problem b j l basis standing (costly p b k first.0) (entering p b j second.0) (leaving p b j l third.0))
+abbrev pub pivot : ℕ → ℕ → ℕ → Pivot
+pivot k j l = record { costly = k; enter = j; leave = l }
+
+abbrev pub after : Problem → Tableau → Pivot → Tableau
+after p b s = exchanged p b s.enter s.leave
+
+abbrev pub steps_by : Problem → Tableau → Pivot → Bool
+steps_by p b s = costs_at p b s.costly && (enters p b s.enter && leaves p b s.enter s.leave)
+
+stepped : (p : Problem) → IsProblem p → (b : Tableau) → IsBasis p b → IsStanding p b → (s : Pivot) → steps_by p b s ≡ true → IsStrictStep p b (after p b s)
+stepped p fits b basis standing s e =
+    let first = both (costs_at p b s.costly) (enters p b s.enter && leaves p b s.enter s.leave) e in
+    let second = both (enters p b s.enter) (leaves p b s.enter s.leave) first.1 in
+    ratio_steps p fits b s.enter s.leave basis standing (costly p b s.costly first.0) (entering p b s.enter second.0) (leaving p b s.enter s.leave second.1)
 
 -- ---- problems
 
@@ -236,40 +244,15 @@ problem p e =
     let b = both (all_long p.given p.rows) (all_nonneg p.right) a.1 in
     record { rows = same_is (length p.rows) (height p) a.0; columns = all_are_long p.given p.rows b.0; nonneg = all_are_nonneg p.right b.1 }
 
-abbrev pub same_problem : Problem → Problem → Bool
-same_problem p q = (p.given == q.given) && (same_rows p.rows q.rows && same_list p.right q.right)
-
-pub problem_is : (p q : Problem) → same_problem p q ≡ true → p ≡ q
-problem_is p q e =
-    let a = both (p.given == q.given) (same_rows p.rows q.rows && same_list p.right q.right) e in
-    let b = both (same_rows p.rows q.rows) (same_list p.right q.right) a.1 in
-    ap (λ g. made g p.rows p.right) (same_is p.given q.given a.0) ∙ ap (λ M. made q.given M p.right) (rows_are p.rows q.rows b.0) ∙ ap (made q.given q.rows) (list_is p.right q.right b.1)
-  where
-    made : ℕ → List (List ℚ) → List ℚ → Problem
-    made g M r = record { given = g; rows = M; right = r }
-
 -- ---- chains
 
--- a strict step: the unit column at `costly` costs something, the column `enter` comes in at the place `leave`, and the inverse after it
-pub record Stage : Type 0 where
-  pub costly : ℕ
-  pub enter : ℕ
-  pub leave : ℕ
-  pub inverse : List (List ℚ)
-
-abbrev pub stage : ℕ → ℕ → ℕ → List (List ℚ) → Stage
-stage k j l N = record { costly = k; enter = j; leave = l; inverse = N }
-
-abbrev pub after : Problem → Tableau → Stage → Tableau
-after p b s = record { columns = (exchanged p b s.enter s.leave).columns; inverse = s.inverse }
-
-abbrev pub after_all : Problem → Tableau → List Stage → Tableau
+abbrev pub after_all : Problem → Tableau → List Pivot → Tableau
 after_all p b [] = b
-after_all p b (s ∷ stages) = after_all p (after p b s) stages
+after_all p b (s ∷ pivots) = after_all p (after p b s) pivots
 
-abbrev pub passes : Problem → Tableau → List Stage → Bool
+abbrev pub passes : Problem → Tableau → List Pivot → Bool
 passes p b [] = true
-passes p b (s ∷ stages) = steps_to p b s.costly s.enter s.leave s.inverse && passes p (after p b s) stages
+passes p b (s ∷ pivots) = steps_by p b s && passes p (after p b s) pivots
 
 -- a chain that ends at b, with so many strict steps
 record IsChainOf (p : Problem) (b : Tableau) (count : ℕ) : Type 0 where
@@ -277,55 +260,52 @@ record IsChainOf (p : Problem) (b : Tableau) (count : ℕ) : Type 0 where
   chain : IsChain p (b ∷ earlier)
   size : length earlier ≡ count
 
-goes_through : (p : Problem) → IsProblem p → (b : Tableau) (k : ℕ) (stages : List Stage) → IsBasis p b → IsStanding p b → IsChainOf p b k → passes p b stages ≡ true
-    → IsChainOf p (after_all p b stages) (length stages + k)
+goes_through : (p : Problem) → IsProblem p → (b : Tableau) (k : ℕ) (pivots : List Pivot) → IsBasis p b → IsStanding p b → IsChainOf p b k → passes p b pivots ≡ true
+    → IsChainOf p (after_all p b pivots) (length pivots + k)
 goes_through p fits b k [] basis standing h e = record { earlier = h.earlier; chain = h.chain; size = h.size ∙ omega arith }
-goes_through p fits b k (s ∷ stages) basis standing h e =
-    let t = both (steps_to p b s.costly s.enter s.leave s.inverse) (passes p (after p b s) stages) e in
-    let step = stepped p fits b basis standing s.costly s.enter s.leave s.inverse t.0 in
-    let rest = goes_through p fits (after p b s) (suc k) stages step.basis step.standing (record { earlier = b ∷ h.earlier; chain = (step, h.chain); size = ap suc h.size }) t.1 in
+goes_through p fits b k (s ∷ pivots) basis standing h e =
+    let t = both (steps_by p b s) (passes p (after p b s) pivots) e in
+    let step = stepped p fits b basis standing s t.0 in
+    let rest = goes_through p fits (after p b s) (suc k) pivots step.basis step.standing (record { earlier = b ∷ h.earlier; chain = (step, h.chain); size = ap suc h.size }) t.1 in
     record { earlier = rest.earlier; chain = rest.chain; size = rest.size ∙ omega arith }
 
--- the chain of a problem from its unit basis on, where p is the problem with its numbers calculated
-abbrev pub is_chain : Problem → Problem → List Stage → ℕ → Bool
-is_chain source p stages budget = same_problem source p && (is_problem p && (passes p (unit_basis p) stages && nat_le (length stages) budget))
+-- the chain of a problem by these pivots, from its unit basis on
+abbrev pub is_chain : Problem → List Pivot → ℕ → Bool
+is_chain p pivots budget = is_problem p && (passes p (unit_basis p) pivots && nat_le (length pivots) budget)
 
-ends_within : (source p : Problem) (stages : List Stage) (budget : ℕ) → is_chain source p stages budget ≡ true → (source ≡ p) × EndsWithin p budget (after_all p (unit_basis p) stages)
-ends_within source p stages budget e =
-    let a = both (same_problem source p) (is_problem p && (passes p (unit_basis p) stages && nat_le (length stages) budget)) e in
-    let b = both (is_problem p) (passes p (unit_basis p) stages && nat_le (length stages) budget) a.1 in
-    let c = both (passes p (unit_basis p) stages) (nat_le (length stages) budget) b.1 in
-    let fits = problem p b.0 in
-    let h = goes_through p fits (unit_basis p) 0 stages (units_basis p) (units_standing p fits) (record { earlier = []; chain = refl; size = refl }) c.0 in
-    (problem_is source p a.0, record { earlier = h.earlier; chain = h.chain; count = at_most (length h.earlier) (length stages) budget h.size c.1 })
+ends_within : (p : Problem) (pivots : List Pivot) (budget : ℕ) → is_chain p pivots budget ≡ true → EndsWithin p budget (after_all p (unit_basis p) pivots)
+ends_within p pivots budget e =
+    let a = both (is_problem p) (passes p (unit_basis p) pivots && nat_le (length pivots) budget) e in
+    let b = both (passes p (unit_basis p) pivots) (nat_le (length pivots) budget) a.1 in
+    let fits = problem p a.0 in
+    let h = goes_through p fits (unit_basis p) 0 pivots (units_basis p) (units_standing p fits) (record { earlier = []; chain = refl; size = refl }) b.0 in
+    record { earlier = h.earlier; chain = h.chain; count = at_most (length h.earlier) (length pivots) budget h.size b.1 }
   where
     at_most : (m l b : ℕ) → m ≡ l + 0 → nat_le l b ≡ true → m ≤ b
     at_most m l b e f = let g : l ≤ b = grind (arith, nat_tests) in omega (arith, e, g)
 
-abbrev pub solves_by : Problem → Problem → List Stage → ℕ → List ℚ → Bool
-solves_by source p stages budget x =
-    is_chain source p stages budget && (costs_nothing p (after_all p (unit_basis p) stages) && same_list (solution_of p (after_all p (unit_basis p) stages)) x)
+abbrev pub solves_by : Problem → List Pivot → ℕ → List ℚ → Bool
+solves_by p pivots budget x =
+    is_chain p pivots budget && (costs_nothing p (after_all p (unit_basis p) pivots) && same_list (solution_of p (after_all p (unit_basis p) pivots)) x)
 
-pub solved_by : (source p : Problem) (stages : List Stage) (budget : ℕ) (x : List ℚ) → solves_by source p stages budget x ≡ true → IsSolvedWithin source budget x
-solved_by source p stages budget x e =
-    let b = after_all p (unit_basis p) stages in
-    let s = both (is_chain source p stages budget) (costs_nothing p b && same_list (solution_of p b) x) e in
+pub solved_by : (p : Problem) (pivots : List Pivot) (budget : ℕ) (x : List ℚ) → solves_by p pivots budget x ≡ true → IsSolvedWithin p budget x
+solved_by p pivots budget x e =
+    let b = after_all p (unit_basis p) pivots in
+    let s = both (is_chain p pivots budget) (costs_nothing p b && same_list (solution_of p b) x) e in
     let t = both (costs_nothing p b) (same_list (solution_of p b) x) s.1 in
-    let c = ends_within source p stages budget s.0 in
-    subst (λ q. IsSolvedWithin q budget x) (sym c.0) (record { basis = b; ends = c.1; zero_cost = zero_cost p b t.0; solution = sym (list_is (solution_of p b) x t.1) })
+    record { basis = b; ends = ends_within p pivots budget s.0; zero_cost = zero_cost p b t.0; solution = sym (list_is (solution_of p b) x t.1) }
 
 -- the unit column at k costs something at the end
-abbrev pub refutes_by : Problem → Problem → List Stage → ℕ → ℕ → List ℚ → Bool
-refutes_by source p stages k budget y =
-    is_chain source p stages budget && (ends_at p (after_all p (unit_basis p) stages) k && same_list (farkas_of p (after_all p (unit_basis p) stages)) y)
+abbrev pub refutes_by : Problem → List Pivot → ℕ → ℕ → List ℚ → Bool
+refutes_by p pivots k budget y =
+    is_chain p pivots budget && (ends_at p (after_all p (unit_basis p) pivots) k && same_list (farkas_of p (after_all p (unit_basis p) pivots)) y)
 
-pub refuted_by : (source p : Problem) (stages : List Stage) (k budget : ℕ) (y : List ℚ) → refutes_by source p stages k budget y ≡ true → IsRefutedWithin source budget y
-refuted_by source p stages k budget y e =
-    let b = after_all p (unit_basis p) stages in
-    let s = both (is_chain source p stages budget) (ends_at p b k && same_list (farkas_of p b) y) e in
+pub refuted_by : (p : Problem) (pivots : List Pivot) (k budget : ℕ) (y : List ℚ) → refutes_by p pivots k budget y ≡ true → IsRefutedWithin p budget y
+refuted_by p pivots k budget y e =
+    let b = after_all p (unit_basis p) pivots in
+    let s = both (is_chain p pivots budget) (ends_at p b k && same_list (farkas_of p b) y) e in
     let t = both (ends_at p b k) (same_list (farkas_of p b) y) s.1 in
-    let c = ends_within source p stages budget s.0 in
-    subst (λ q. IsRefutedWithin q budget y) (sym c.0) (record { basis = b; ends = c.1; final = final p b k t.0; farkas = sym (list_is (farkas_of p b) y t.1) })
+    record { basis = b; ends = ends_within p pivots budget s.0; final = final p b k t.0; farkas = sym (list_is (farkas_of p b) y t.1) }
 
 -- ---- forms and solutions
 

@@ -10,11 +10,10 @@ use Rattle.rational.specs.Order.{◌<ℚ◌}
 use Rattle.rational.specs.Vectors.{IsSemidefinite}
 use Rattle.equational.specs.Form.{Form}
 use Rattle.equational.specs.Solutions.{IsForm, IsSolution, IsFormRay}
-use Rattle.face_descent.specs.Small.{IsStationary, support}
+use Rattle.face_descent.specs.Small.{IsStationary, height, support}
 use Rattle.face_descent.specs.Step.{IsShrinkStep, AreShrinkSteps, newest_point}
 use Rattle.face_descent.proofs.Ends.{few_steps}
 use Rattle.quad_solve.specs.Problems.{price_problem, direction}
-use Rattle.quad_solve.specs.Steps.{height}
 use Rattle.quad_solve.specs.Walk.{Way, Start, Shrink, Price, Visit, IsPriced, IsSolved, IsRefuted, GoesOn, IsWalkFrom, IsSpentWalk, one_if_price, price_steps, more_if_shrink, last_shrinks}
 use Rattle.quad_solve.proofs.Decided.{some_end}
 use Rattle.quad_solve.proofs.Descents.{prices_form_a_problem}

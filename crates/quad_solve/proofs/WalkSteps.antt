@@ -11,11 +11,11 @@ use Rattle.rational.proofs.Order.{lt_le}
 use Rattle.rational.proofs.OrderLaws.{le_trans, le-lt_trans}
 use Rattle.equational.specs.Form.{Form}
 use Rattle.equational.specs.Solutions.{IsForm, IsSolution, IsFormRay}
-use Rattle.face_descent.specs.Small.{IsStationary}
+use Rattle.face_descent.specs.Small.{IsStationary, height}
 use Rattle.face_descent.specs.Step.{IsShrinkStep, AreShrinkSteps, newest_point}
 use Rattle.face_descent.proofs.Ends.{step_kept, steps_kept, stationary_has_no_step, step_or_stationary}
 use Rattle.quad_solve.specs.Problems.{feasible_problem, price_problem, direction}
-use Rattle.quad_solve.specs.Steps.{LeadsDown, HaveSameSupport, height}
+use Rattle.quad_solve.specs.Steps.{LeadsDown, HaveSameSupport}
 use Rattle.quad_solve.specs.Walk.{Way, Start, Shrink, Price, Visit, IsSolved, IsRefuted, IsPriced, GoesOn, IsLowest, IsWalkFrom, IsWalk, IsOnWalk, with_shrinks, IsDecidedWithin, HasPricesWithin, price_steps}
 use Rattle.quad_solve.proofs.Decided.{some_end, solved_is_solution}
 use Rattle.quad_solve.proofs.Descents.{prices_form_a_problem, solution_leads_down}
@@ -63,7 +63,7 @@ module _ (n : ℕ) (f : Form) (form : IsForm n f) (semi : IsSemidefinite n f.qua
     where
       priced : IsStationary f z → (x : List ℚ) → IsSolved (price_problem f z) x → (way : Way) × (next : List ℚ) × GoesOn n f way z next
       priced st x h =
-          let s = some_step n f z (direction f z x) form semi (priced_down z x sol h) sol (rayless (direction f z x)) in
+          let s = some_step n f z (direction f z x) form semi sol (priced_down z x sol h) (rayless (direction f z x)) in
           (Price, Rattle.face_descent.specs.Step.moved z (direction f z x) s.0, record { stationary = st; solution = x; solved = h; step = s.0; goes = s.1; end = refl })
 
       at : IsStationary f z → (budget : ℕ) × Rattle.quad_solve.specs.Walk.IsDecidedWithin (price_problem f z) budget

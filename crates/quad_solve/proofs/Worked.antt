@@ -20,7 +20,7 @@ one_leads_down = record {
 
 pub one_is_the_step : IsPriceStep parabola (zero_ℚ ∷ []) (one_ℚ ∷ []) one_ℚ
 one_is_the_step = record {
-  zeros = λ j b. absurd (not-le_of_lt b (entry_nonneg (one_ℚ ∷ []) one_nonneg j));
+  within = λ j b. absurd (not-le_of_lt b (entry_nonneg (one_ℚ ∷ []) one_nonneg j));
   minimum = le_of_eq (ring rationals [] (lit 1 ⊗ (lit 1 ⊗ (lit 1 ⊗ lit 1 ⊕ lit 0) ⊕ lit 0) ≐ lit 1) refl);
   met = inr (ring rationals [] (lit 1 ⊗ (lit 1 ⊗ (lit 1 ⊗ lit 1 ⊕ lit 0) ⊕ lit 0) ≐ lit 1) refl);
 }

@@ -11,7 +11,6 @@ use Rattle.rational.specs.Vectors.{IsSemidefinite, dot, rows_dot}
 use Rattle.rational.proofs.Order.{ordered_rationals}
 use Rattle.program_law.specs.Program.{bounds}
 use Rattle.program_law.specs.Columns.{value}
-use Rattle.linear_basis.specs.Problem.{Problem}
 use Rattle.equational.specs.Form.{Form, form_of, point_of, multipliers_of}
 use Rattle.equational.specs.Solutions.{IsForm, IsSolution}
 use Rattle.face_descent.specs.Small.{IsStationary}
@@ -19,7 +18,7 @@ use Rattle.quad_solve.specs.Problems.{feasible_problem, ray_problem, price_probl
 use Rattle.quad_solve.specs.Walk.{IsSolvedWithin, IsRefutedWithin, IsPriced}
 use Rattle.quad_solve.specs.Answer.{IsBest}
 use Rattle.quad_solve.specs.Worked.{n, minus, hill}
-use Rattle.quad_solve.proofs.Tested.{Stage, stage, solved_by, refuted_by, list_is, form, form_is, solution, symmetric, stationary, priced, IsOneStep, best_by}
+use Rattle.quad_solve.proofs.Tested.{pivot, solved_by, refuted_by, list_is, form, form_is, solution, symmetric, stationary, priced, IsOneStep, best_by}
 
 abbrev f : Form
 f = record { matrix = (n 1 ∷ n 1 ∷ n 1 ∷ n 0 ∷ n 0 ∷ []) ∷ (minus 1 ∷ n 2 ∷ n 0 ∷ n 1 ∷ n 0 ∷ []) ∷ (n 0 ∷ n 1 ∷ n 0 ∷ n 0 ∷ n 1 ∷ []) ∷ []; right = n 7 ∷ n 4 ∷ n 4 ∷ []; quadratic = (n 2 ∷ n 0 ∷ n 0 ∷ n 0 ∷ n 0 ∷ []) ∷ (n 0 ∷ n 8 ∷ n 0 ∷ n 0 ∷ n 0 ∷ []) ∷ (n 0 ∷ n 0 ∷ n 0 ∷ n 0 ∷ n 0 ∷ []) ∷ (n 0 ∷ n 0 ∷ n 0 ∷ n 0 ∷ n 0 ∷ []) ∷ (n 0 ∷ n 0 ∷ n 0 ∷ n 0 ∷ n 0 ∷ []) ∷ []; cost = n 0 ∷ minus 32 ∷ n 0 ∷ n 0 ∷ n 0 ∷ []; constant = n 64 }
@@ -55,73 +54,33 @@ abbrev end : List ℚ
 end = n 2 ∷ n 3 ∷ n 2 ∷ n 0 ∷ n 1 ∷ []
 
 -- the feasible chain
-abbrev feasible_given : Problem
-feasible_given = record { given = 5; rows = (n 1 ∷ n 1 ∷ n 1 ∷ n 0 ∷ n 0 ∷ []) ∷ (minus 1 ∷ n 2 ∷ n 0 ∷ n 1 ∷ n 0 ∷ []) ∷ (n 0 ∷ n 1 ∷ n 0 ∷ n 0 ∷ n 1 ∷ []) ∷ []; right = n 7 ∷ n 4 ∷ n 4 ∷ [] }
-
-abbrev feasible_stages : List Stage
-feasible_stages =
-    stage 0 1 1 ((n 1 ∷ fraction (neg_ℤ (pos 1)) 2 ∷ n 0 ∷ []) ∷ (n 0 ∷ fraction (pos 1) 2 ∷ n 0 ∷ []) ∷ (n 0 ∷ fraction (neg_ℤ (pos 1)) 2 ∷ n 1 ∷ []) ∷ [])
-    ∷ stage 0 0 0 ((fraction (pos 2) 3 ∷ fraction (neg_ℤ (pos 1)) 3 ∷ n 0 ∷ []) ∷ (fraction (pos 1) 3 ∷ fraction (pos 1) 3 ∷ n 0 ∷ []) ∷ (fraction (neg_ℤ (pos 1)) 3 ∷ fraction (neg_ℤ (pos 1)) 3 ∷ n 1 ∷ []) ∷ [])
-    ∷ stage 2 4 2 ((fraction (pos 2) 3 ∷ fraction (neg_ℤ (pos 1)) 3 ∷ n 0 ∷ []) ∷ (fraction (pos 1) 3 ∷ fraction (pos 1) 3 ∷ n 0 ∷ []) ∷ (fraction (neg_ℤ (pos 1)) 3 ∷ fraction (neg_ℤ (pos 1)) 3 ∷ n 1 ∷ []) ∷ [])
-    ∷ []
-
 feasible : IsSolvedWithin (feasible_problem f) 6 start
 unfolding ◌+ℚ◌ ◌*ℚ◌ neg_ℚ ratio gcd_of whole reciprocal
-feasible = solved_by (feasible_problem f) feasible_given feasible_stages 6 start refl
+feasible = solved_by (feasible_problem f) (pivot 0 1 1 ∷ pivot 0 0 0 ∷ pivot 2 4 2 ∷ []) 6 start refl
+
+abbrev no_ray : List ℚ
+no_ray = n 0 ∷ n 0 ∷ n 0 ∷ n 0 ∷ n 4 ∷ minus 1 ∷ minus 1 ∷ minus 1 ∷ minus 1 ∷ []
 
 -- the ray chain
-abbrev rays_given : Problem
-rays_given = record { given = 5; rows = (n 1 ∷ n 1 ∷ n 1 ∷ n 0 ∷ n 0 ∷ []) ∷ (minus 1 ∷ n 2 ∷ n 0 ∷ n 1 ∷ n 0 ∷ []) ∷ (n 0 ∷ n 1 ∷ n 0 ∷ n 0 ∷ n 1 ∷ []) ∷ (n 2 ∷ n 0 ∷ n 0 ∷ n 0 ∷ n 0 ∷ []) ∷ (n 0 ∷ n 8 ∷ n 0 ∷ n 0 ∷ n 0 ∷ []) ∷ (n 0 ∷ n 0 ∷ n 0 ∷ n 0 ∷ n 0 ∷ []) ∷ (n 0 ∷ n 0 ∷ n 0 ∷ n 0 ∷ n 0 ∷ []) ∷ (n 0 ∷ n 0 ∷ n 0 ∷ n 0 ∷ n 0 ∷ []) ∷ (n 0 ∷ n 32 ∷ n 0 ∷ n 0 ∷ n 0 ∷ []) ∷ []; right = n 0 ∷ n 0 ∷ n 0 ∷ n 0 ∷ n 0 ∷ n 0 ∷ n 0 ∷ n 0 ∷ n 1 ∷ [] }
-
-abbrev rays_stages : List Stage
-rays_stages =
-    stage 8 0 3 ((n 1 ∷ n 0 ∷ n 0 ∷ fraction (neg_ℤ (pos 1)) 2 ∷ n 0 ∷ n 0 ∷ n 0 ∷ n 0 ∷ n 0 ∷ []) ∷ (n 0 ∷ n 1 ∷ n 0 ∷ fraction (pos 1) 2 ∷ n 0 ∷ n 0 ∷ n 0 ∷ n 0 ∷ n 0 ∷ []) ∷ (n 0 ∷ n 0 ∷ n 1 ∷ n 0 ∷ n 0 ∷ n 0 ∷ n 0 ∷ n 0 ∷ n 0 ∷ []) ∷ (n 0 ∷ n 0 ∷ n 0 ∷ fraction (pos 1) 2 ∷ n 0 ∷ n 0 ∷ n 0 ∷ n 0 ∷ n 0 ∷ []) ∷ (n 0 ∷ n 0 ∷ n 0 ∷ n 0 ∷ n 1 ∷ n 0 ∷ n 0 ∷ n 0 ∷ n 0 ∷ []) ∷ (n 0 ∷ n 0 ∷ n 0 ∷ n 0 ∷ n 0 ∷ n 1 ∷ n 0 ∷ n 0 ∷ n 0 ∷ []) ∷ (n 0 ∷ n 0 ∷ n 0 ∷ n 0 ∷ n 0 ∷ n 0 ∷ n 1 ∷ n 0 ∷ n 0 ∷ []) ∷ (n 0 ∷ n 0 ∷ n 0 ∷ n 0 ∷ n 0 ∷ n 0 ∷ n 0 ∷ n 1 ∷ n 0 ∷ []) ∷ (n 0 ∷ n 0 ∷ n 0 ∷ n 0 ∷ n 0 ∷ n 0 ∷ n 0 ∷ n 0 ∷ n 1 ∷ []) ∷ [])
-    ∷ stage 8 1 4 ((n 1 ∷ n 0 ∷ n 0 ∷ fraction (neg_ℤ (pos 1)) 2 ∷ fraction (neg_ℤ (pos 1)) 8 ∷ n 0 ∷ n 0 ∷ n 0 ∷ n 0 ∷ []) ∷ (n 0 ∷ n 1 ∷ n 0 ∷ fraction (pos 1) 2 ∷ fraction (neg_ℤ (pos 1)) 4 ∷ n 0 ∷ n 0 ∷ n 0 ∷ n 0 ∷ []) ∷ (n 0 ∷ n 0 ∷ n 1 ∷ n 0 ∷ fraction (neg_ℤ (pos 1)) 8 ∷ n 0 ∷ n 0 ∷ n 0 ∷ n 0 ∷ []) ∷ (n 0 ∷ n 0 ∷ n 0 ∷ fraction (pos 1) 2 ∷ n 0 ∷ n 0 ∷ n 0 ∷ n 0 ∷ n 0 ∷ []) ∷ (n 0 ∷ n 0 ∷ n 0 ∷ n 0 ∷ fraction (pos 1) 8 ∷ n 0 ∷ n 0 ∷ n 0 ∷ n 0 ∷ []) ∷ (n 0 ∷ n 0 ∷ n 0 ∷ n 0 ∷ n 0 ∷ n 1 ∷ n 0 ∷ n 0 ∷ n 0 ∷ []) ∷ (n 0 ∷ n 0 ∷ n 0 ∷ n 0 ∷ n 0 ∷ n 0 ∷ n 1 ∷ n 0 ∷ n 0 ∷ []) ∷ (n 0 ∷ n 0 ∷ n 0 ∷ n 0 ∷ n 0 ∷ n 0 ∷ n 0 ∷ n 1 ∷ n 0 ∷ []) ∷ (n 0 ∷ n 0 ∷ n 0 ∷ n 0 ∷ minus 4 ∷ n 0 ∷ n 0 ∷ n 0 ∷ n 1 ∷ []) ∷ [])
-    ∷ stage 8 2 0 ((n 1 ∷ n 0 ∷ n 0 ∷ fraction (neg_ℤ (pos 1)) 2 ∷ fraction (neg_ℤ (pos 1)) 8 ∷ n 0 ∷ n 0 ∷ n 0 ∷ n 0 ∷ []) ∷ (n 0 ∷ n 1 ∷ n 0 ∷ fraction (pos 1) 2 ∷ fraction (neg_ℤ (pos 1)) 4 ∷ n 0 ∷ n 0 ∷ n 0 ∷ n 0 ∷ []) ∷ (n 0 ∷ n 0 ∷ n 1 ∷ n 0 ∷ fraction (neg_ℤ (pos 1)) 8 ∷ n 0 ∷ n 0 ∷ n 0 ∷ n 0 ∷ []) ∷ (n 0 ∷ n 0 ∷ n 0 ∷ fraction (pos 1) 2 ∷ n 0 ∷ n 0 ∷ n 0 ∷ n 0 ∷ n 0 ∷ []) ∷ (n 0 ∷ n 0 ∷ n 0 ∷ n 0 ∷ fraction (pos 1) 8 ∷ n 0 ∷ n 0 ∷ n 0 ∷ n 0 ∷ []) ∷ (n 0 ∷ n 0 ∷ n 0 ∷ n 0 ∷ n 0 ∷ n 1 ∷ n 0 ∷ n 0 ∷ n 0 ∷ []) ∷ (n 0 ∷ n 0 ∷ n 0 ∷ n 0 ∷ n 0 ∷ n 0 ∷ n 1 ∷ n 0 ∷ n 0 ∷ []) ∷ (n 0 ∷ n 0 ∷ n 0 ∷ n 0 ∷ n 0 ∷ n 0 ∷ n 0 ∷ n 1 ∷ n 0 ∷ []) ∷ (n 0 ∷ n 0 ∷ n 0 ∷ n 0 ∷ minus 4 ∷ n 0 ∷ n 0 ∷ n 0 ∷ n 1 ∷ []) ∷ [])
-    ∷ stage 8 3 1 ((n 1 ∷ n 0 ∷ n 0 ∷ fraction (neg_ℤ (pos 1)) 2 ∷ fraction (neg_ℤ (pos 1)) 8 ∷ n 0 ∷ n 0 ∷ n 0 ∷ n 0 ∷ []) ∷ (n 0 ∷ n 1 ∷ n 0 ∷ fraction (pos 1) 2 ∷ fraction (neg_ℤ (pos 1)) 4 ∷ n 0 ∷ n 0 ∷ n 0 ∷ n 0 ∷ []) ∷ (n 0 ∷ n 0 ∷ n 1 ∷ n 0 ∷ fraction (neg_ℤ (pos 1)) 8 ∷ n 0 ∷ n 0 ∷ n 0 ∷ n 0 ∷ []) ∷ (n 0 ∷ n 0 ∷ n 0 ∷ fraction (pos 1) 2 ∷ n 0 ∷ n 0 ∷ n 0 ∷ n 0 ∷ n 0 ∷ []) ∷ (n 0 ∷ n 0 ∷ n 0 ∷ n 0 ∷ fraction (pos 1) 8 ∷ n 0 ∷ n 0 ∷ n 0 ∷ n 0 ∷ []) ∷ (n 0 ∷ n 0 ∷ n 0 ∷ n 0 ∷ n 0 ∷ n 1 ∷ n 0 ∷ n 0 ∷ n 0 ∷ []) ∷ (n 0 ∷ n 0 ∷ n 0 ∷ n 0 ∷ n 0 ∷ n 0 ∷ n 1 ∷ n 0 ∷ n 0 ∷ []) ∷ (n 0 ∷ n 0 ∷ n 0 ∷ n 0 ∷ n 0 ∷ n 0 ∷ n 0 ∷ n 1 ∷ n 0 ∷ []) ∷ (n 0 ∷ n 0 ∷ n 0 ∷ n 0 ∷ minus 4 ∷ n 0 ∷ n 0 ∷ n 0 ∷ n 1 ∷ []) ∷ [])
-    ∷ stage 8 4 2 ((n 1 ∷ n 0 ∷ n 0 ∷ fraction (neg_ℤ (pos 1)) 2 ∷ fraction (neg_ℤ (pos 1)) 8 ∷ n 0 ∷ n 0 ∷ n 0 ∷ n 0 ∷ []) ∷ (n 0 ∷ n 1 ∷ n 0 ∷ fraction (pos 1) 2 ∷ fraction (neg_ℤ (pos 1)) 4 ∷ n 0 ∷ n 0 ∷ n 0 ∷ n 0 ∷ []) ∷ (n 0 ∷ n 0 ∷ n 1 ∷ n 0 ∷ fraction (neg_ℤ (pos 1)) 8 ∷ n 0 ∷ n 0 ∷ n 0 ∷ n 0 ∷ []) ∷ (n 0 ∷ n 0 ∷ n 0 ∷ fraction (pos 1) 2 ∷ n 0 ∷ n 0 ∷ n 0 ∷ n 0 ∷ n 0 ∷ []) ∷ (n 0 ∷ n 0 ∷ n 0 ∷ n 0 ∷ fraction (pos 1) 8 ∷ n 0 ∷ n 0 ∷ n 0 ∷ n 0 ∷ []) ∷ (n 0 ∷ n 0 ∷ n 0 ∷ n 0 ∷ n 0 ∷ n 1 ∷ n 0 ∷ n 0 ∷ n 0 ∷ []) ∷ (n 0 ∷ n 0 ∷ n 0 ∷ n 0 ∷ n 0 ∷ n 0 ∷ n 1 ∷ n 0 ∷ n 0 ∷ []) ∷ (n 0 ∷ n 0 ∷ n 0 ∷ n 0 ∷ n 0 ∷ n 0 ∷ n 0 ∷ n 1 ∷ n 0 ∷ []) ∷ (n 0 ∷ n 0 ∷ n 0 ∷ n 0 ∷ minus 4 ∷ n 0 ∷ n 0 ∷ n 0 ∷ n 1 ∷ []) ∷ [])
-    ∷ []
-
-rays : IsRefutedWithin (ray_problem f) 6 (n 0 ∷ n 0 ∷ n 0 ∷ n 0 ∷ n 4 ∷ minus 1 ∷ minus 1 ∷ minus 1 ∷ minus 1 ∷ [])
+rays : IsRefutedWithin (ray_problem f) 6 no_ray
 unfolding ◌+ℚ◌ ◌*ℚ◌ neg_ℚ ratio gcd_of whole reciprocal
-rays = refuted_by (ray_problem f) rays_given rays_stages 8 6 (n 0 ∷ n 0 ∷ n 0 ∷ n 0 ∷ n 4 ∷ minus 1 ∷ minus 1 ∷ minus 1 ∷ minus 1 ∷ []) refl
+rays = refuted_by (ray_problem f) (pivot 8 0 3 ∷ pivot 8 1 4 ∷ pivot 8 2 0 ∷ pivot 8 3 1 ∷ pivot 8 4 2 ∷ []) 8 6 no_ray refl
+
+abbrev parts : List ℚ
+parts = n 0 ∷ n 0 ∷ fraction (pos 9) 32 ∷ n 0 ∷ fraction (pos 3) 32 ∷ fraction (pos 3) 16 ∷ fraction (pos 3) 32 ∷ n 0 ∷ []
 
 -- the price chain at the start
-abbrev down_given : Problem
-down_given = record { given = 8; rows = (n 1 ∷ n 1 ∷ n 1 ∷ n 0 ∷ n 0 ∷ minus 1 ∷ minus 1 ∷ n 0 ∷ []) ∷ (minus 1 ∷ n 2 ∷ n 0 ∷ n 1 ∷ n 0 ∷ n 1 ∷ minus 2 ∷ n 0 ∷ []) ∷ (n 0 ∷ n 1 ∷ n 0 ∷ n 0 ∷ n 1 ∷ n 0 ∷ minus 1 ∷ minus 1 ∷ []) ∷ (fraction (neg_ℤ (pos 20)) 3 ∷ fraction (pos 8) 3 ∷ n 0 ∷ n 0 ∷ n 0 ∷ fraction (pos 20) 3 ∷ fraction (neg_ℤ (pos 8)) 3 ∷ n 0 ∷ []) ∷ []; right = n 0 ∷ n 0 ∷ n 0 ∷ n 1 ∷ [] }
-
-abbrev down_stages : List Stage
-down_stages =
-    stage 3 1 2 ((n 1 ∷ n 0 ∷ minus 1 ∷ n 0 ∷ []) ∷ (n 0 ∷ n 1 ∷ minus 2 ∷ n 0 ∷ []) ∷ (n 0 ∷ n 0 ∷ n 1 ∷ n 0 ∷ []) ∷ (n 0 ∷ n 0 ∷ fraction (neg_ℤ (pos 8)) 3 ∷ n 1 ∷ []) ∷ [])
-    ∷ stage 3 2 0 ((n 1 ∷ n 0 ∷ minus 1 ∷ n 0 ∷ []) ∷ (n 0 ∷ n 1 ∷ minus 2 ∷ n 0 ∷ []) ∷ (n 0 ∷ n 0 ∷ n 1 ∷ n 0 ∷ []) ∷ (n 0 ∷ n 0 ∷ fraction (neg_ℤ (pos 8)) 3 ∷ n 1 ∷ []) ∷ [])
-    ∷ stage 3 3 1 ((n 1 ∷ n 0 ∷ minus 1 ∷ n 0 ∷ []) ∷ (n 0 ∷ n 1 ∷ minus 2 ∷ n 0 ∷ []) ∷ (n 0 ∷ n 0 ∷ n 1 ∷ n 0 ∷ []) ∷ (n 0 ∷ n 0 ∷ fraction (neg_ℤ (pos 8)) 3 ∷ n 1 ∷ []) ∷ [])
-    ∷ stage 3 5 1 ((n 1 ∷ n 1 ∷ minus 3 ∷ n 0 ∷ []) ∷ (n 0 ∷ n 1 ∷ minus 2 ∷ n 0 ∷ []) ∷ (n 0 ∷ n 0 ∷ n 1 ∷ n 0 ∷ []) ∷ (n 0 ∷ fraction (neg_ℤ (pos 20)) 3 ∷ fraction (pos 32) 3 ∷ n 1 ∷ []) ∷ [])
-    ∷ stage 3 4 2 ((n 1 ∷ n 1 ∷ n 0 ∷ n 0 ∷ []) ∷ (n 0 ∷ n 1 ∷ n 0 ∷ n 0 ∷ []) ∷ (n 0 ∷ n 0 ∷ n 1 ∷ n 0 ∷ []) ∷ (n 0 ∷ fraction (neg_ℤ (pos 20)) 3 ∷ n 0 ∷ n 1 ∷ []) ∷ [])
-    ∷ stage 3 6 3 ((n 1 ∷ fraction (neg_ℤ (pos 7)) 8 ∷ n 0 ∷ fraction (pos 9) 32 ∷ []) ∷ (n 0 ∷ fraction (neg_ℤ (pos 1)) 4 ∷ n 0 ∷ fraction (pos 3) 16 ∷ []) ∷ (n 0 ∷ fraction (neg_ℤ (pos 5)) 8 ∷ n 1 ∷ fraction (pos 3) 32 ∷ []) ∷ (n 0 ∷ fraction (neg_ℤ (pos 5)) 8 ∷ n 0 ∷ fraction (pos 3) 32 ∷ []) ∷ [])
-    ∷ []
-
-down : IsSolvedWithin (price_problem f start) 6 (n 0 ∷ n 0 ∷ fraction (pos 9) 32 ∷ n 0 ∷ fraction (pos 3) 32 ∷ fraction (pos 3) 16 ∷ fraction (pos 3) 32 ∷ n 0 ∷ [])
+down : IsSolvedWithin (price_problem f start) 6 parts
 unfolding ◌+ℚ◌ ◌*ℚ◌ neg_ℚ ratio gcd_of whole reciprocal
-down = solved_by (price_problem f start) down_given down_stages 6 (n 0 ∷ n 0 ∷ fraction (pos 9) 32 ∷ n 0 ∷ fraction (pos 3) 32 ∷ fraction (pos 3) 16 ∷ fraction (pos 3) 32 ∷ n 0 ∷ []) refl
+down = solved_by (price_problem f start) (pivot 3 1 2 ∷ pivot 3 2 0 ∷ pivot 3 3 1 ∷ pivot 3 5 1 ∷ pivot 3 4 2 ∷ pivot 3 6 3 ∷ []) 6 parts refl
 
 abbrev farkas : List ℚ
 farkas = n 0 ∷ n 4 ∷ n 0 ∷ minus 1 ∷ []
 
 -- the price chain at the end
-abbrev done_given : Problem
-done_given = record { given = 9; rows = (n 1 ∷ n 1 ∷ n 1 ∷ n 0 ∷ n 0 ∷ minus 1 ∷ minus 1 ∷ minus 1 ∷ n 0 ∷ []) ∷ (minus 1 ∷ n 2 ∷ n 0 ∷ n 1 ∷ n 0 ∷ n 1 ∷ minus 2 ∷ n 0 ∷ n 0 ∷ []) ∷ (n 0 ∷ n 1 ∷ n 0 ∷ n 0 ∷ n 1 ∷ n 0 ∷ minus 1 ∷ n 0 ∷ minus 1 ∷ []) ∷ (minus 4 ∷ n 8 ∷ n 0 ∷ n 0 ∷ n 0 ∷ n 4 ∷ minus 8 ∷ n 0 ∷ n 0 ∷ []) ∷ []; right = n 0 ∷ n 0 ∷ n 0 ∷ n 1 ∷ [] }
-
-abbrev done_stages : List Stage
-done_stages =
-    stage 3 1 2 ((n 1 ∷ n 0 ∷ minus 1 ∷ n 0 ∷ []) ∷ (n 0 ∷ n 1 ∷ minus 2 ∷ n 0 ∷ []) ∷ (n 0 ∷ n 0 ∷ n 1 ∷ n 0 ∷ []) ∷ (n 0 ∷ n 0 ∷ minus 8 ∷ n 1 ∷ []) ∷ [])
-    ∷ stage 3 2 0 ((n 1 ∷ n 0 ∷ minus 1 ∷ n 0 ∷ []) ∷ (n 0 ∷ n 1 ∷ minus 2 ∷ n 0 ∷ []) ∷ (n 0 ∷ n 0 ∷ n 1 ∷ n 0 ∷ []) ∷ (n 0 ∷ n 0 ∷ minus 8 ∷ n 1 ∷ []) ∷ [])
-    ∷ stage 3 3 1 ((n 1 ∷ n 0 ∷ minus 1 ∷ n 0 ∷ []) ∷ (n 0 ∷ n 1 ∷ minus 2 ∷ n 0 ∷ []) ∷ (n 0 ∷ n 0 ∷ n 1 ∷ n 0 ∷ []) ∷ (n 0 ∷ n 0 ∷ minus 8 ∷ n 1 ∷ []) ∷ [])
-    ∷ stage 3 5 1 ((n 1 ∷ n 1 ∷ minus 3 ∷ n 0 ∷ []) ∷ (n 0 ∷ n 1 ∷ minus 2 ∷ n 0 ∷ []) ∷ (n 0 ∷ n 0 ∷ n 1 ∷ n 0 ∷ []) ∷ (n 0 ∷ minus 4 ∷ n 0 ∷ n 1 ∷ []) ∷ [])
-    ∷ []
-
 done : IsRefutedWithin (price_problem f end) 6 farkas
 unfolding ◌+ℚ◌ ◌*ℚ◌ neg_ℚ ratio gcd_of whole reciprocal
-done = refuted_by (price_problem f end) done_given done_stages 3 6 farkas refl
+done = refuted_by (price_problem f end) (pivot 3 1 2 ∷ pivot 3 2 0 ∷ pivot 3 3 1 ∷ pivot 3 5 1 ∷ []) 3 6 farkas refl
 
 -- the walk
 start_solves : IsSolution f start
@@ -138,15 +97,15 @@ end_still = stationary 5 f end (n 0 ∷ minus 4 ∷ n 0 ∷ []) fits convex refl
 
 step : IsPriced f start end
 unfolding ◌+ℚ◌ ◌*ℚ◌ neg_ℚ ratio gcd_of whole reciprocal
-step = priced 5 f start (n 0 ∷ n 0 ∷ fraction (pos 9) 32 ∷ n 0 ∷ fraction (pos 3) 32 ∷ fraction (pos 3) 16 ∷ fraction (pos 3) 32 ∷ n 0 ∷ []) (fraction (neg_ℤ (pos 3)) 16 ∷ fraction (neg_ℤ (pos 3)) 32 ∷ fraction (pos 9) 32 ∷ n 0 ∷ fraction (pos 3) 32 ∷ []) (fraction (pos 64) 9) end fits convex start_solves start_still (6, down) refl
+step = priced 5 f start parts (fraction (neg_ℤ (pos 3)) 16 ∷ fraction (neg_ℤ (pos 3)) 32 ∷ fraction (pos 9) 32 ∷ n 0 ∷ fraction (pos 3) 32 ∷ []) (fraction (pos 64) 9) end fits convex start_solves start_still (6, down) refl
 
 one_step : IsOneStep 5 f 6 start end farkas
 one_step = record {
   fits = fits;
   convex = convex;
   solved = feasible;
-  no_ray = (n 0 ∷ n 0 ∷ n 0 ∷ n 0 ∷ n 4 ∷ minus 1 ∷ minus 1 ∷ minus 1 ∷ minus 1 ∷ [], rays);
-  direction = (n 0 ∷ n 0 ∷ fraction (pos 9) 32 ∷ n 0 ∷ fraction (pos 3) 32 ∷ fraction (pos 3) 16 ∷ fraction (pos 3) 32 ∷ n 0 ∷ [], down);
+  no_ray = (no_ray, rays);
+  direction = (parts, down);
   step = step;
   still = end_still;
   refuted = done;

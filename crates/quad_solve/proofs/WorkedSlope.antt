@@ -1,16 +1,15 @@
 -- The answer of a worked program, by computing: -x falls without end from 0 along 1.
-use Rattle.std.proofs.Common.{◌≡◌, refl, sym, subst, List, [], ◌∷◌}
+use Rattle.std.proofs.Common.{◌≡◌, refl, sym, subst, [], ◌∷◌}
 use Rattle.rational.specs.Divisors.{gcd_of}
 use Rattle.rational.specs.Rational.{whole, ratio, neg_ℚ, reciprocal, ◌+ℚ◌, ◌*ℚ◌}
 use Rattle.rational.specs.Sums.{half}
 use Rattle.program_law.specs.Program.{bounds}
-use Rattle.linear_basis.specs.Problem.{Problem}
 use Rattle.equational.specs.Form.{Form, form_of, point_of, direction_of}
 use Rattle.quad_solve.specs.Problems.{feasible_problem, ray_problem}
 use Rattle.quad_solve.specs.Walk.{IsSolvedWithin}
 use Rattle.quad_solve.specs.Answer.{IsFalling}
 use Rattle.quad_solve.specs.Worked.{n, minus, slope}
-use Rattle.quad_solve.proofs.Tested.{Stage, stage, solved_by, list_is, form_is}
+use Rattle.quad_solve.proofs.Tested.{pivot, solved_by, list_is, form_is}
 
 abbrev f : Form
 f = record { matrix = []; right = []; quadratic = (n 0 ∷ []) ∷ []; cost = minus 1 ∷ []; constant = n 0 }
@@ -20,28 +19,14 @@ unfolding ◌+ℚ◌ ◌*ℚ◌ neg_ℚ ratio gcd_of whole reciprocal half
 f_is = form_is (form_of slope (bounds slope)) f refl
 
 -- the feasible chain
-abbrev feasible_given : Problem
-feasible_given = record { given = 1; rows = []; right = [] }
-
-abbrev feasible_stages : List Stage
-feasible_stages = []
-
 feasible : IsSolvedWithin (feasible_problem f) 1 (n 0 ∷ [])
 unfolding ◌+ℚ◌ ◌*ℚ◌ neg_ℚ ratio gcd_of whole reciprocal
-feasible = solved_by (feasible_problem f) feasible_given feasible_stages 1 (n 0 ∷ []) refl
+feasible = solved_by (feasible_problem f) [] 1 (n 0 ∷ []) refl
 
 -- the ray chain
-abbrev rays_given : Problem
-rays_given = record { given = 1; rows = (n 0 ∷ []) ∷ (n 1 ∷ []) ∷ []; right = n 0 ∷ n 1 ∷ [] }
-
-abbrev rays_stages : List Stage
-rays_stages =
-    stage 1 0 1 ((n 1 ∷ n 0 ∷ []) ∷ (n 0 ∷ n 1 ∷ []) ∷ [])
-    ∷ []
-
 rays : IsSolvedWithin (ray_problem f) 1 (n 1 ∷ [])
 unfolding ◌+ℚ◌ ◌*ℚ◌ neg_ℚ ratio gcd_of whole reciprocal
-rays = solved_by (ray_problem f) rays_given rays_stages 1 (n 1 ∷ []) refl
+rays = solved_by (ray_problem f) (pivot 1 0 1 ∷ []) 1 (n 1 ∷ []) refl
 
 -- carried back
 pub answer : IsFalling slope (bounds slope) 1 (n 0 ∷ []) (n 1 ∷ [])

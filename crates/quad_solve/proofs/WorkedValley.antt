@@ -11,7 +11,6 @@ use Rattle.rational.specs.Vectors.{IsSemidefinite, dot, rows_dot}
 use Rattle.rational.proofs.Order.{ordered_rationals}
 use Rattle.program_law.specs.Program.{bounds}
 use Rattle.program_law.specs.Columns.{value}
-use Rattle.linear_basis.specs.Problem.{Problem}
 use Rattle.equational.specs.Form.{Form, form_of, point_of, multipliers_of}
 use Rattle.equational.specs.Solutions.{IsForm, IsSolution}
 use Rattle.face_descent.specs.Small.{IsStationary}
@@ -19,7 +18,7 @@ use Rattle.quad_solve.specs.Problems.{feasible_problem, ray_problem, price_probl
 use Rattle.quad_solve.specs.Walk.{IsSolvedWithin, IsRefutedWithin, IsPriced}
 use Rattle.quad_solve.specs.Answer.{IsBest}
 use Rattle.quad_solve.specs.Worked.{n, minus, valley}
-use Rattle.quad_solve.proofs.Tested.{Stage, stage, solved_by, refuted_by, list_is, form, form_is, solution, symmetric, stationary, priced, IsOneStep, best_by}
+use Rattle.quad_solve.proofs.Tested.{pivot, solved_by, refuted_by, list_is, form, form_is, solution, symmetric, stationary, priced, IsOneStep, best_by}
 
 abbrev f : Form
 f = record { matrix = []; right = []; quadratic = (n 2 ∷ n 2 ∷ []) ∷ (n 2 ∷ n 2 ∷ []) ∷ []; cost = minus 4 ∷ minus 4 ∷ []; constant = n 4 }
@@ -52,55 +51,33 @@ abbrev end : List ℚ
 end = n 2 ∷ n 0 ∷ []
 
 -- the feasible chain
-abbrev feasible_given : Problem
-feasible_given = record { given = 2; rows = []; right = [] }
-
-abbrev feasible_stages : List Stage
-feasible_stages = []
-
 feasible : IsSolvedWithin (feasible_problem f) 1 start
 unfolding ◌+ℚ◌ ◌*ℚ◌ neg_ℚ ratio gcd_of whole reciprocal
-feasible = solved_by (feasible_problem f) feasible_given feasible_stages 1 start refl
+feasible = solved_by (feasible_problem f) [] 1 start refl
+
+abbrev no_ray : List ℚ
+no_ray = minus 1 ∷ n 3 ∷ minus 1 ∷ []
 
 -- the ray chain
-abbrev rays_given : Problem
-rays_given = record { given = 2; rows = (n 2 ∷ n 2 ∷ []) ∷ (n 2 ∷ n 2 ∷ []) ∷ (n 4 ∷ n 4 ∷ []) ∷ []; right = n 0 ∷ n 0 ∷ n 1 ∷ [] }
-
-abbrev rays_stages : List Stage
-rays_stages =
-    stage 2 0 1 ((n 1 ∷ minus 1 ∷ n 0 ∷ []) ∷ (n 0 ∷ fraction (pos 1) 2 ∷ n 0 ∷ []) ∷ (n 0 ∷ minus 2 ∷ n 1 ∷ []) ∷ [])
-    ∷ []
-
-rays : IsRefutedWithin (ray_problem f) 1 (minus 1 ∷ n 3 ∷ minus 1 ∷ [])
+rays : IsRefutedWithin (ray_problem f) 1 no_ray
 unfolding ◌+ℚ◌ ◌*ℚ◌ neg_ℚ ratio gcd_of whole reciprocal
-rays = refuted_by (ray_problem f) rays_given rays_stages 2 1 (minus 1 ∷ n 3 ∷ minus 1 ∷ []) refl
+rays = refuted_by (ray_problem f) (pivot 2 0 1 ∷ []) 2 1 no_ray refl
+
+abbrev parts : List ℚ
+parts = fraction (pos 1) 4 ∷ n 0 ∷ []
 
 -- the price chain at the start
-abbrev down_given : Problem
-down_given = record { given = 2; rows = (n 4 ∷ n 4 ∷ []) ∷ []; right = n 1 ∷ [] }
-
-abbrev down_stages : List Stage
-down_stages =
-    stage 0 0 0 ((fraction (pos 1) 4 ∷ []) ∷ [])
-    ∷ []
-
-down : IsSolvedWithin (price_problem f start) 1 (fraction (pos 1) 4 ∷ n 0 ∷ [])
+down : IsSolvedWithin (price_problem f start) 1 parts
 unfolding ◌+ℚ◌ ◌*ℚ◌ neg_ℚ ratio gcd_of whole reciprocal
-down = solved_by (price_problem f start) down_given down_stages 1 (fraction (pos 1) 4 ∷ n 0 ∷ []) refl
+down = solved_by (price_problem f start) (pivot 0 0 0 ∷ []) 1 parts refl
 
 abbrev farkas : List ℚ
 farkas = minus 1 ∷ []
 
 -- the price chain at the end
-abbrev done_given : Problem
-done_given = record { given = 3; rows = (n 0 ∷ n 0 ∷ n 0 ∷ []) ∷ []; right = n 1 ∷ [] }
-
-abbrev done_stages : List Stage
-done_stages = []
-
 done : IsRefutedWithin (price_problem f end) 1 farkas
 unfolding ◌+ℚ◌ ◌*ℚ◌ neg_ℚ ratio gcd_of whole reciprocal
-done = refuted_by (price_problem f end) done_given done_stages 0 1 farkas refl
+done = refuted_by (price_problem f end) [] 0 1 farkas refl
 
 -- the walk
 start_solves : IsSolution f start
@@ -117,15 +94,15 @@ end_still = stationary 2 f end ([]) fits convex refl refl
 
 step : IsPriced f start end
 unfolding ◌+ℚ◌ ◌*ℚ◌ neg_ℚ ratio gcd_of whole reciprocal
-step = priced 2 f start (fraction (pos 1) 4 ∷ n 0 ∷ []) (fraction (pos 1) 4 ∷ n 0 ∷ []) (n 8) end fits convex start_solves start_still (1, down) refl
+step = priced 2 f start parts (fraction (pos 1) 4 ∷ n 0 ∷ []) (n 8) end fits convex start_solves start_still (1, down) refl
 
 one_step : IsOneStep 2 f 1 start end farkas
 one_step = record {
   fits = fits;
   convex = convex;
   solved = feasible;
-  no_ray = (minus 1 ∷ n 3 ∷ minus 1 ∷ [], rays);
-  direction = (fraction (pos 1) 4 ∷ n 0 ∷ [], down);
+  no_ray = (no_ray, rays);
+  direction = (parts, down);
   step = step;
   still = end_still;
   refuted = done;

@@ -2,10 +2,10 @@
 use Rattle.std.specs.Prelude.{ℕ, ◌+◌, List, [], ◌∷◌, ◌++◌, length, map, take, drop}
 use Rattle.rational.specs.Rational.{ℚ, zero_ℚ, one_ℚ, neg_ℚ, ◌/ℚ◌}
 use Rattle.rational.specs.Sums.{entry}
-use Rattle.rational.specs.Vectors.{add_each, zeros, pick, put_at, gradient}
+use Rattle.rational.specs.Vectors.{add_each, zeros, pick, put_at}
 use Rattle.linear_basis.specs.Problem.{Problem}
 use Rattle.equational.specs.Form.{Form}
-use Rattle.face_descent.specs.Small.{support}
+use Rattle.face_descent.specs.Small.{slope, support}
 
 -- M z = r, over the form's columns
 abbrev pub feasible_problem : Form → Problem
@@ -19,10 +19,6 @@ ray_problem f =
       rows = f.matrix ++ (f.quadratic ++ map neg_ℚ f.cost ∷ []);
       right = zeros (length f.matrix) ++ (zeros (length f.quadratic) ++ one_ℚ ∷ []);
     }
-
--- the gradient of the form at z, Q z + c
-abbrev pub slope : Form → List ℚ → List ℚ
-slope f z = gradient f.quadratic f.cost z
 
 -- a row over two columns for each place of a support s, and one for each other place: the row, and then its entries at s negated
 abbrev pub doubled : List ℕ → List ℚ → List ℚ

@@ -1,15 +1,12 @@
 -- Directions that lead down from a point of a form, and price steps along them.
 use Rattle.std.specs.Prelude.{◌≡◌, ℕ, List, length, ◌⊎◌, ◌↔◌}
-use Rattle.rational.specs.Rational.{ℚ, zero_ℚ, one_ℚ, neg_ℚ, ◌+ℚ◌, ◌*ℚ◌}
+use Rattle.rational.specs.Rational.{ℚ, zero_ℚ, one_ℚ, neg_ℚ, ◌*ℚ◌}
 use Rattle.rational.specs.Order.{◌≤ℚ◌, ◌<ℚ◌}
 use Rattle.rational.specs.Sums.{entry}
-use Rattle.rational.specs.Vectors.{dot, zeros, rows_dot, quadratic}
+use Rattle.rational.specs.Vectors.{dot, zeros, rows_dot}
 use Rattle.equational.specs.Form.{Form}
-use Rattle.quad_solve.specs.Problems.{slope}
-
--- what the form asks at z: ½ z^T Q z + c · z + c0
-abbrev pub height : Form → List ℚ → ℚ
-height f z = quadratic f.quadratic f.cost f.constant z
+use Rattle.face_descent.specs.Step.{IsWithin, IsNearest}
+use Rattle.face_descent.specs.Small.{slope}
 
 -- d leads down from z: M d = 0, the gradient at z gives it -1, and it lessens only what is above 0
 pub record LeadsDown (f : Form) (z d : List ℚ) : Type 0 where
@@ -22,13 +19,12 @@ pub record LeadsDown (f : Form) (z d : List ℚ) : Type 0 where
 abbrev pub curvature : Form → List ℚ → ℚ
 curvature f d = dot d (rows_dot f.quadratic d)
 
--- a price step of length s along d: to the nearest zero or to the line's minimum 1 / d^T Q d, whichever is nearer. So no entry that d
--- lessens falls below 0, s times the curvature is at most 1, and one of them is met: an entry that d lessens becomes 0, or s times
--- the curvature is 1.
+-- a price step of length s along d: to the nearest zero or to the line's minimum 1 / d^T Q d, whichever is nearer. So it goes past no
+-- zero, s times the curvature is at most 1, and one of them is met.
 pub record IsPriceStep (f : Form) (z d : List ℚ) (s : ℚ) : Type 0 where
-  pub zeros : (j : ℕ) → entry d j <ℚ zero_ℚ → zero_ℚ ≤ℚ (entry z j +ℚ s *ℚ entry d j)
+  pub within : IsWithin z d s
   pub minimum : (s *ℚ curvature f d) ≤ℚ one_ℚ
-  pub met : ((j : ℕ) × (entry d j <ℚ zero_ℚ) × (entry z j +ℚ s *ℚ entry d j ≡ zero_ℚ)) ⊎ (s *ℚ curvature f d ≡ one_ℚ)
+  pub met : IsNearest z d s ⊎ (s *ℚ curvature f d ≡ one_ℚ)
 
 -- z and w are 0 at the same places
 abbrev pub HaveSameSupport : List ℚ → List ℚ → Type 0

@@ -6,10 +6,10 @@ use Rattle.linear_basis.specs.Problem.{Problem}
 use Rattle.linear_basis.specs.Basis.{Tableau, IsZeroCost, IsFinal, solution_of, farkas_of}
 use Rattle.linear_simplex.specs.Chain.{EndsWithin}
 use Rattle.equational.specs.Form.{Form}
-use Rattle.face_descent.specs.Small.{IsStationary}
+use Rattle.face_descent.specs.Small.{IsStationary, height}
 use Rattle.face_descent.specs.Step.{IsShrinkStep, moved}
 use Rattle.quad_solve.specs.Problems.{feasible_problem, price_problem, direction}
-use Rattle.quad_solve.specs.Steps.{IsPriceStep, height}
+use Rattle.quad_solve.specs.Steps.{IsPriceStep}
 
 -- ---- how a chain ends
 

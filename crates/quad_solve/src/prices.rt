@@ -10,10 +10,10 @@ ghost use Rattle.equational.specs.Form.{Form};
 ghost use Rattle.equational.specs.Solutions.{IsForm, IsSolution, IsFormRay};
 ghost use Rattle.equational.specs.Optimal.{IsOptimality};
 ghost use Rattle.quad_solve.specs.Problems.{price_problem, direction, last_number, price_multipliers, parabola};
-ghost use Rattle.face_descent.specs.Small.{HasMultipliers, IsStationary};
+ghost use Rattle.face_descent.specs.Small.{HasMultipliers, IsStationary, height};
 ghost use Rattle.face_descent.specs.Step.{moved};
 ghost use Rattle.quad_solve.specs.Operations.{price_length};
-ghost use Rattle.quad_solve.specs.Steps.{LeadsDown, IsPriceStep, HaveSameSupport, curvature, height};
+ghost use Rattle.quad_solve.specs.Steps.{LeadsDown, IsPriceStep, HaveSameSupport, curvature};
 
 /// A solution of the price problem at a point gives a direction that leads down from it, and each such direction comes
 /// from a solution.

@@ -6,10 +6,10 @@ ghost use Rattle.rational.specs.Order.{◌<ℚ◌, ◌≤ℚ◌};
 ghost use Rattle.rational.specs.Vectors.{IsSemidefinite};
 ghost use Rattle.equational.specs.Form.{Form};
 ghost use Rattle.equational.specs.Solutions.{IsForm, IsSolution, IsFormRay};
-ghost use Rattle.face_descent.specs.Small.{IsStationary};
+ghost use Rattle.face_descent.specs.Small.{IsStationary, height};
 ghost use Rattle.face_descent.specs.Step.{AreShrinkSteps, newest_point};
 ghost use Rattle.quad_solve.specs.Problems.{feasible_problem, price_problem};
-ghost use Rattle.quad_solve.specs.Steps.{HaveSameSupport, height};
+ghost use Rattle.quad_solve.specs.Steps.{HaveSameSupport};
 ghost use Rattle.quad_solve.specs.Walk.{HasPricesWithin, IsDecidedWithin, Visit, Way, Start, GoesOn, IsOnWalk, IsRefuted, IsSolved, IsSpentWalk, IsWalk, IsWalkFrom, last_shrinks, price_steps, with_shrinks};
 
 /// A walk starts where a chain of the feasible problem ends, at a solution. Each step from its newest point makes a walk

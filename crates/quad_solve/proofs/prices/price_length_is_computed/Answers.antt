@@ -1,4 +1,4 @@
-use Rattle.quad_solve.proofs.PriceLength.{length_is}
+use Rattle.quad_solve.proofs.Lengths.{length_is}
 use Rattle.quad_solve.proofs.prices.price_length_is_computed.Goals as goal
 
 pub returns : goal.returns
