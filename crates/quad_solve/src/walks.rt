@@ -14,8 +14,8 @@ ghost use Rattle.quad_solve.specs.Walk.{HasPricesWithin, IsDecidedWithin, Visit,
 
 /// A walk starts where a chain of the feasible problem ends, at a solution. Each step from its newest point makes a walk
 /// again, and so does a list of shrink steps. Each of its points is the newest of a walk; what a step or a list of shrink steps
-/// reaches from such a point is one, too. Where the form has no ray, a
-/// point that isn't stationary is left by some step, and so is a stationary one, unless its price problem is refuted.
+/// reaches from such a point is one, too. Where the form has no ray, a point that isn't stationary is left by some step, and so
+/// is a stationary one, unless its price problem is refuted.
 pub fn walks_go_on()
     ensures starts { (n : ℕ) (f : Form) (z : List ℚ) → IsSolved (feasible_problem f) z → IsWalk n f (record { point = z; way = Start } ∷ []) }
     ensures solution { (n : ℕ) (f : Form) (z : List ℚ) → IsForm n f → IsSolved (feasible_problem f) z → IsSolution f z }
