@@ -36,9 +36,11 @@ pub fn answers_are_true()
 
 /// The cases of a region's answer exclude each other, whatever the budgets.
 pub fn answers_exclude_each_other()
-    ensures found { (p : Program) (region : Region) (one other : ℕ) (x y : List ℚ) → IsProgram p → length region ≡ length p.columns →
+    ensures found { (p : Program) (region : Region) (one other : ℕ) (x y : List ℚ) → IsProgram p →
+        length region ≡ length p.columns →
         IsFound p region one x → IsEmpty p region other y → ⊥ }
-    ensures ray { (p : Program) (region : Region) (one other : ℕ) (x d y : List ℚ) → IsProgram p → length region ≡ length p.columns →
+    ensures ray { (p : Program) (region : Region) (one other : ℕ) (x d y : List ℚ) → IsProgram p →
+        length region ≡ length p.columns →
         IsFalling p region one x d → IsEmpty p region other y → ⊥ }
     ensures best { (p : Program) (region : Region) (one other : ℕ) (x : List ℚ) (least : ℚ) (y u : List ℚ) → IsProgram p →
         length region ≡ length p.columns → IsBest p region one x least y → IsEmpty p region other u → ⊥ }
