@@ -52,7 +52,7 @@ module _ (n : ℕ) (z d : List ℚ) (s : ℚ) (wide : length z ≡ n) (long : le
   stays_zero j e f = entry-moved n z d s j wide long ∙ ap (λ t. t +ℚ s *ℚ entry d j) e ∙ ap (λ t. zero_ℚ +ℚ s *ℚ t) f ∙ ring rationals (s ∷ []) (λ s. lit 0 ⊕ s ⊗ lit 0 ≐ lit 0) refl
 
   -- within the nearest zero no entry falls below 0
-  pub entry_nonneg : zero_ℚ ≤ℚ s → IsWithin z d s → (j : ℕ) → zero_ℚ ≤ℚ entry z j → zero_ℚ ≤ℚ entry (moved z d s) j
+  entry_nonneg : zero_ℚ ≤ℚ s → IsWithin z d s → (j : ℕ) → zero_ℚ ≤ℚ entry z j → zero_ℚ ≤ℚ entry (moved z d s) j
   entry_nonneg p within j k = subst (λ t. zero_ℚ ≤ℚ t) (sym (entry-moved n z d s j wide long)) (⊎_elim rises falls (le_or_lt zero_ℚ (entry d j)))
     where
       rises : zero_ℚ ≤ℚ entry d j → zero_ℚ ≤ℚ (entry z j +ℚ s *ℚ entry d j)

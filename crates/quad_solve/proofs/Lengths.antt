@@ -19,12 +19,6 @@ use Rattle.quad_solve.specs.Steps.{LeadsDown, IsPriceStep, curvature}
 use Rattle.quad_solve.specs.Operations.{price_length}
 use Rattle.quad_solve.proofs.Moves.{step_goes, flat_lessens}
 
-none_is_not_some : (s : ℚ) → None ≡ Some s → ⊥
-none_is_not_some s e = cc
-
-of_some : {s t : ℚ} → Some s ≡ Some t → s ≡ t
-of_some e = cc
-
 one_is_not_zero : (s h : ℚ) → h ≡ zero_ℚ → s *ℚ h ≡ one_ℚ → ⊥
 one_is_not_zero s h e k = lt_irrefl zero_ℚ (prove ordered_rationals (s ∷ h ∷ []) (λ s h. lit 0 ≺ lit 0 ⇐ scaled s h (lit 0) ⊞ given (lit 1 ≐ s ⊗ h) ⊞ weight 1) refl e (sym k))
 

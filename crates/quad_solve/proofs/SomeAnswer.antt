@@ -1,5 +1,7 @@
 -- Each region has an answer, and a larger budget keeps it.
-use Rattle.std.proofs.Common.{◌≡◌, refl, ℕ, ◌+◌, ◌≤◌, inl, inr, ⊎_elim, List, [], ◌∷◌, length, map, arith}
+use Rattle.std.proofs.Common.{◌≡◌, refl, ℕ, ◌+◌, ◌≤◌, inl, inr, ⊎_elim, List, [], ◌∷◌, length, map, arith, suc}
+use Rattle.std.specs.Prelude.{All, ◌^◌}
+use Rattle.std.proofs.Math.Nat.{pow-le-pow_right}
 use Rattle.std.proofs.lemmas.List.Elements.{All-nil, All-cons, All-weaker}
 use Rattle.rational.specs.Rational.{ℚ, neg_ℚ}
 use Rattle.rational.specs.Vectors.{IsSemidefinite}
@@ -7,18 +9,21 @@ use Rattle.program_law.specs.Region.{Region}
 use Rattle.program_law.specs.Program.{Program, IsProgram}
 use Rattle.program_law.specs.Columns.{value}
 use Rattle.linear_basis.specs.Problem as linear
+use Rattle.linear_basis.specs.Basis.{Tableau}
+use Rattle.linear_simplex.specs.Chain.{IsChain}
 use Rattle.equational.specs.Form.{Form, width, form_of, point_of, direction_of, multipliers_of}
-use Rattle.equational.specs.Solutions.{IsForm}
+use Rattle.equational.specs.Solutions.{IsForm, IsSolution}
 use Rattle.equational.proofs.Shapes.{shape, semidefinite}
 use Rattle.face_descent.specs.Small.{IsStationary}
 use Rattle.quad_solve.specs.Problems.{feasible_problem, ray_problem, price_problem, price_multipliers}
 use Rattle.quad_solve.specs.Walk.{IsSolvedWithin, IsRefutedWithin, IsDecidedWithin, Visit, IsWalkFrom, HasPricesWithin, price_steps}
-use Rattle.quad_solve.specs.Answer.{Answer, Empty, Ray, Best, IsFound, IsAnswer}
+use Rattle.quad_solve.specs.Answer.{Answer, Empty, Ray, Best, IsFound, IsAnswer, IsBest}
 use Rattle.quad_solve.proofs.Decided.{some_end, refuted_is_farkas}
 use Rattle.quad_solve.proofs.Descents.{prices_form_a_problem}
 use Rattle.quad_solve.proofs.Directions.{feasible_is_a_problem, rays_form_a_problem, refuted_has_none}
-use Rattle.quad_solve.proofs.WalkSteps.{start_solves}
-use Rattle.quad_solve.proofs.WalkLengths.{some_walk}
+use Rattle.quad_solve.proofs.Counts.{feasible_short, ray_short, price_short}
+use Rattle.quad_solve.proofs.WalkSteps.{start_solves, newest_solves, all_solve}
+use Rattle.quad_solve.proofs.WalkLengths.{some_walk, few_prices}
 
 -- ---- larger budgets
 
@@ -138,3 +143,92 @@ module _ (p : Program) (region : Region) (is : IsProgram p) (wide : length regio
       by : (budget : ℕ) × IsDecidedWithin (feasible_problem f) budget → Told
       by e = ⊎_elim (λ s. rays e.0 s.0 s.1 (some_end (ray_problem f) (rays_form_a_problem (width p region) f fits)))
           (λ r. (e.0, Empty (multipliers_of p region (map neg_ℚ r.0)), record { farkas = r.0; refuted = r.1; multipliers = refl })) e.1
+
+-- ---- a budget that is always enough
+
+abbrev pub enough : Program → Region → ℕ
+enough p region = 2 ^ (width p region + width p region + length (form_of p region).matrix + 1)
+
+AreShort : linear.Problem → ℕ → Type 0
+AreShort p room = (chain : List Tableau) → IsChain p chain → length chain ≤ room
+
+near_solved : (p : linear.Problem) (b room : ℕ) (x : List ℚ) → AreShort p room → IsSolvedWithin p b x → IsSolvedWithin p room x
+unfolding AreShort
+near_solved p b room x short h =
+    let l = short (h.basis ∷ h.ends.earlier) h.ends.chain in
+    record { basis = h.basis; ends = record { earlier = h.ends.earlier; chain = h.ends.chain; count = omega arith }; zero_cost = h.zero_cost; solution = h.solution }
+
+near_refuted : (p : linear.Problem) (b room : ℕ) (y : List ℚ) → AreShort p room → IsRefutedWithin p b y → IsRefutedWithin p room y
+unfolding AreShort
+near_refuted p b room y short h =
+    let l = short (h.basis ∷ h.ends.earlier) h.ends.chain in
+    record { basis = h.basis; ends = record { earlier = h.ends.earlier; chain = h.ends.chain; count = omega arith }; final = h.final; farkas = h.farkas }
+
+near_decided : (p : linear.Problem) (b room : ℕ) → AreShort p room → IsDecidedWithin p b → IsDecidedWithin p room
+near_decided p b room short h = ⊎_elim (λ s. inl (s.0, near_solved p b room s.0 short s.1)) (λ r. inr (r.0, near_refuted p b room r.0 short r.1)) h
+
+module _ (p : Program) (region : Region) (is : IsProgram p) (wide : length region ≡ length p.columns) (semi : IsSemidefinite (length p.columns) p.pairs) where
+  abbrev g : Form
+  g = form_of p region
+
+  abbrev room : ℕ
+  room = enough p region
+
+  fit : IsForm (width p region) g
+  fit = shape p region is wide
+
+  convex : IsSemidefinite (width p region) g.quadratic
+  convex = semidefinite p region is wide semi
+
+  feasible_near : AreShort (feasible_problem g) room
+  unfolding AreShort
+  feasible_near chain h = feasible_short (width p region) g chain fit h
+
+  rays_near : AreShort (ray_problem g) room
+  unfolding AreShort
+  rays_near chain h = ray_short (width p region) g chain fit h
+
+  prices_near : (z : List ℚ) → IsSolution g z → AreShort (price_problem g z) room
+  unfolding AreShort
+  prices_near z sol chain h = price_short (width p region) g z chain fit sol h
+
+  near_prices : (b : ℕ) (walk : List Visit) → All (λ v. IsSolution g v.point) walk → HasPricesWithin g b walk → HasPricesWithin g room walk
+  near_prices b walk sols h i d l st = near_decided (price_problem g _) b room (prices_near _ (sols i d l)) (h i d l st)
+
+  few : (k n m : ℕ) → suc k ≤ 2 ^ n → k ≤ 2 ^ (n + n + m + 1)
+  few k n m h = let w : 2 ^ n ≤ 2 ^ (n + n + m + 1) = pow-le-pow_right {n = 2} (omega arith) (omega arith) in omega (arith, h, w)
+
+  near_best : (b : ℕ) (x : List ℚ) (least : ℚ) (y : List ℚ) → IsBest p region b x least y → IsBest p region room x least y
+  near_best b x least y h =
+      let start = start_solves (width p region) g h.start fit (b, h.solved) in
+      let sols = all_solve (width p region) g fit convex h.start start (h.newest ∷ h.earlier) h.walk in
+      record {
+        start = h.start;
+        solved = near_solved (feasible_problem g) b room h.start feasible_near h.solved;
+        no_ray = (h.no_ray.0, near_refuted (ray_problem g) b room h.no_ray.0 rays_near h.no_ray.1);
+        newest = h.newest;
+        earlier = h.earlier;
+        walk = h.walk;
+        stationary = h.stationary;
+        farkas = h.farkas;
+        refuted = near_refuted (price_problem g h.newest.point) b room h.farkas
+            (prices_near h.newest.point (newest_solves (width p region) g fit convex h.start start h.newest h.earlier h.walk)) h.refuted;
+        prices = near_prices b (h.newest ∷ h.earlier) sols h.prices;
+        count = few (price_steps (h.newest ∷ h.earlier)) (width p region) (length g.matrix) (few_prices (width p region) g fit convex h.start start (h.newest ∷ h.earlier) h.walk);
+        point = h.point;
+        value = h.value;
+        multipliers = h.multipliers;
+      }
+
+  pub near_answer : (b : ℕ) (answer : Answer) → IsAnswer p region b answer → IsAnswer p region room answer
+  near_answer b (Empty y) h = record { farkas = h.farkas; refuted = near_refuted (feasible_problem g) b room h.farkas feasible_near h.refuted; multipliers = h.multipliers }
+  near_answer b (Ray x d) h = record {
+    found = record { solution = h.found.solution; solved = near_solved (feasible_problem g) b room h.found.solution feasible_near h.found.solved; point = h.found.point };
+    ray = h.ray;
+    solved = near_solved (ray_problem g) b room h.ray rays_near h.solved;
+    direction = h.direction;
+  }
+  near_answer b (Best x least y) h = near_best b x least y h
+
+  pub answer_within : (answer : Answer) × IsAnswer p region room answer
+  answer_within = let t = some_answer p region is wide semi in (t.1, near_answer t.0 t.1 t.2)

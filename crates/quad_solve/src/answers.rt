@@ -1,6 +1,6 @@
 //! The answer of a region by its three cases.
 
-ghost use Rattle.std.specs.Prelude.{◌≡◌, ◌≤◌, ℕ, List, [], ◌∷◌, length};
+ghost use Rattle.std.specs.Prelude.{◌≡◌, ◌≤◌, ◌+◌, ◌^◌, ℕ, List, [], ◌∷◌, length};
 ghost use Rattle.rational.specs.Rational.{ℚ};
 ghost use Rattle.rational.specs.Order.{◌≤ℚ◌};
 ghost use Rattle.rational.specs.Vectors.{IsSemidefinite};
@@ -8,6 +8,7 @@ ghost use Rattle.program_law.specs.Region.{Region, IsCrossedRegion};
 ghost use Rattle.program_law.specs.Program.{Program, IsProgram, bounds};
 ghost use Rattle.program_law.specs.Columns.{IsRelaxedPoint, value};
 ghost use Rattle.certificate_law.specs.Leaf.{IsGoodBound, IsGoodFarkas};
+ghost use Rattle.equational.specs.Form.{width, form_of};
 ghost use Rattle.equational.specs.Solutions.{IsRegionRay};
 ghost use Rattle.quad_solve.specs.Answer.{Answer, Ray, Best, IsAnswer, IsBest, IsEmpty, IsFalling, IsFound};
 ghost use Rattle.quad_solve.specs.Worked.{n, minus, minus_over, over, hill, portfolio, valley, slope};
@@ -35,9 +36,11 @@ pub fn answers_are_true()
 
 /// The cases of a region's answer exclude each other, whatever the budgets.
 pub fn answers_exclude_each_other()
-    ensures found { (p : Program) (region : Region) (one other : ℕ) (x y : List ℚ) → IsProgram p → length region ≡ length p.columns →
+    ensures found { (p : Program) (region : Region) (one other : ℕ) (x y : List ℚ) → IsProgram p →
+        length region ≡ length p.columns →
         IsFound p region one x → IsEmpty p region other y → ⊥ }
-    ensures ray { (p : Program) (region : Region) (one other : ℕ) (x d y : List ℚ) → IsProgram p → length region ≡ length p.columns →
+    ensures ray { (p : Program) (region : Region) (one other : ℕ) (x d y : List ℚ) → IsProgram p →
+        length region ≡ length p.columns →
         IsFalling p region one x d → IsEmpty p region other y → ⊥ }
     ensures best { (p : Program) (region : Region) (one other : ℕ) (x : List ℚ) (least : ℚ) (y u : List ℚ) → IsProgram p →
         length region ≡ length p.columns → IsBest p region one x least y → IsEmpty p region other u → ⊥ }
@@ -45,10 +48,12 @@ pub fn answers_exclude_each_other()
         length region ≡ length p.columns → IsBest p region one x least y → IsFalling p region other w d → ⊥ }
 {}
 
-/// Each region has an answer within some budget, and only one; a larger budget keeps it.
+/// Where Q is semidefinite, each region has an answer, and only one, whatever the budget; it is within 2^(2n + m + 1), for the n
+/// columns and m equations of the region's form. A larger budget keeps an answer.
 pub fn regions_have_answers()
     ensures some { (p : Program) (region : Region) → IsProgram p → length region ≡ length p.columns →
-        IsSemidefinite (length p.columns) p.pairs → (budget : ℕ) × (answer : Answer) × IsAnswer p region budget answer }
+        IsSemidefinite (length p.columns) p.pairs →
+        (answer : Answer) × IsAnswer p region (2 ^ (width p region + width p region + length (form_of p region).matrix + 1)) answer }
     ensures one { (p : Program) (region : Region) (a b : ℕ) (one other : Answer) → IsProgram p → length region ≡ length p.columns →
         IsSemidefinite (length p.columns) p.pairs → IsAnswer p region a one → IsAnswer p region b other → one ≡ other }
     ensures found { (p : Program) (region : Region) (a b : ℕ) (x y : List ℚ) → IsProgram p → length region ≡ length p.columns →

@@ -46,7 +46,8 @@ pub fn price_step_falls()
 
 /// A price step goes as far as the calculation of its length says.
 pub fn price_length_is_computed()
-    ensures { (n : ℕ) (f : Form) (z d : List ℚ) (s : ℚ) → IsForm n f → IsSemidefinite n f.quadratic → IsSolution f z → LeadsDown f z d →
+    ensures { (n : ℕ) (f : Form) (z d : List ℚ) (s : ℚ) → IsForm n f → IsSemidefinite n f.quadratic → IsSolution f z →
+        LeadsDown f z d →
         IsPriceStep f z d s ↔ (price_length (curvature f d) z d ≡ Some s) }
 {}
 

@@ -17,7 +17,8 @@ ghost use Rattle.quad_solve.specs.Problems.{feasible_problem, ray_problem, price
 pub fn feasible_problem_tells_solutions()
     ensures problem { (n : ℕ) (f : Form) → IsForm n f → linear.IsProblem (feasible_problem f) }
     ensures solution { (f : Form) (z : List ℚ) → linear.IsSolution (feasible_problem f) z ↔ IsSolution f z }
-    ensures refutation { (n : ℕ) (f : Form) (y : List ℚ) → IsForm n f → linear.IsFarkas (feasible_problem f) y ↔ IsRefutation n f y }
+    ensures refutation { (n : ℕ) (f : Form) (y : List ℚ) → IsForm n f →
+        linear.IsFarkas (feasible_problem f) y ↔ IsRefutation n f y }
     ensures not_both { (n : ℕ) (f : Form) (z y : List ℚ) → IsForm n f → IsSolution f z → IsRefutation n f y → ⊥ }
 {}
 
@@ -33,7 +34,8 @@ pub fn ray_problem_tells_rays()
 /// Whether the form of a region has a ray depends only on which bounds the region has, and not on their numbers. So where a
 /// region's form has none, neither has that of a region with all its bounds; and the halves of a region have them.
 pub fn rays_depend_on_which_bounds_exist()
-    ensures none { (p : Program) (region other : Region) → IsProgram p → length region ≡ length p.columns → length other ≡ length p.columns →
+    ensures none { (p : Program) (region other : Region) → IsProgram p → length region ≡ length p.columns →
+        length other ≡ length p.columns →
         HasItsBounds region other → ((d : List ℚ) → ¬ (IsFormRay (form_of p region) d)) → (d : List ℚ) → ¬ (IsFormRay (form_of p other) d) }
     ensures same { (p : Program) (region other : Region) (d : List ℚ) → HasItsBounds region other → HasItsBounds other region →
         IsRegionRay p region d ↔ IsRegionRay p other d }
@@ -44,14 +46,16 @@ pub fn rays_depend_on_which_bounds_exist()
 /// How many columns and equations each problem of a form has, and so how many bases its chains have at most.
 pub fn chains_of_a_form_are_short()
     ensures feasible_columns { (n : ℕ) (f : Form) → IsForm n f → linear.width (feasible_problem f) ≡ n + length f.matrix }
-    ensures ray_columns { (n : ℕ) (f : Form) → IsForm n f → ((ray_problem f).given ≡ n) × (linear.height (ray_problem f) ≡ length f.matrix + n + 1) }
+    ensures ray_columns { (n : ℕ) (f : Form) → IsForm n f →
+        ((ray_problem f).given ≡ n) × (linear.height (ray_problem f) ≡ length f.matrix + n + 1) }
     ensures price_columns { (n : ℕ) (f : Form) (z : List ℚ) → IsForm n f → IsSolution f z →
         ((price_problem f z).given ≤ n + n) × (linear.height (price_problem f z) ≡ length f.matrix + 1) }
     ensures feasible { (n : ℕ) (f : Form) (chain : List Tableau) → IsForm n f → IsChain (feasible_problem f) chain →
         length chain ≤ 2 ^ (n + n + length f.matrix + 1) }
     ensures ray { (n : ℕ) (f : Form) (chain : List Tableau) → IsForm n f → IsChain (ray_problem f) chain →
         length chain ≤ 2 ^ (n + n + length f.matrix + 1) }
-    ensures price { (n : ℕ) (f : Form) (z : List ℚ) (chain : List Tableau) → IsForm n f → IsSolution f z → IsChain (price_problem f z) chain →
+    ensures price { (n : ℕ) (f : Form) (z : List ℚ) (chain : List Tableau) → IsForm n f → IsSolution f z →
+        IsChain (price_problem f z) chain →
         length chain ≤ 2 ^ (n + n + length f.matrix + 1) }
     ensures feasible_budget { (n : ℕ) (f : Form) (budget : ℕ) (b : Tableau) → IsForm n f → IsSpent (feasible_problem f) budget b →
         budget + 2 ≤ 2 ^ (n + n + length f.matrix + 1) }

@@ -14,10 +14,11 @@ ghost use Rattle.quad_solve.specs.Walk.{HasPricesWithin, IsDecidedWithin, Visit,
 
 /// A walk starts where a chain of the feasible problem ends, at a solution. Each step from its newest point makes a walk
 /// again, and so does a list of shrink steps. Each of its points is the newest of a walk; what a step or a list of shrink steps
-/// reaches from such a point is one, too. Where the form has no ray, a
-/// point that isn't stationary is left by some step, and so is a stationary one, unless its price problem is refuted.
+/// reaches from such a point is one, too. Where the form has no ray, a point that isn't stationary is left by some step, and so
+/// is a stationary one, unless its price problem is refuted.
 pub fn walks_go_on()
-    ensures starts { (n : ℕ) (f : Form) (z : List ℚ) → IsSolved (feasible_problem f) z → IsWalk n f (record { point = z; way = Start } ∷ []) }
+    ensures starts { (n : ℕ) (f : Form) (z : List ℚ) → IsSolved (feasible_problem f) z →
+        IsWalk n f (record { point = z; way = Start } ∷ []) }
     ensures solution { (n : ℕ) (f : Form) (z : List ℚ) → IsForm n f → IsSolved (feasible_problem f) z → IsSolution f z }
     ensures step { (n : ℕ) (f : Form) (x : List ℚ) (v : Visit) (earlier : List Visit) (way : Way) (next : List ℚ) → IsForm n f →
         IsSemidefinite n f.quadratic → IsSolution f x → IsWalkFrom n f x (v ∷ earlier) → GoesOn n f way v.point next →
@@ -26,7 +27,8 @@ pub fn walks_go_on()
         IsSemidefinite n f.quadratic → IsSolution f x → IsWalkFrom n f x (v ∷ earlier) → AreShrinkSteps n f v.point points →
         IsWalkFrom n f x (with_shrinks points (v ∷ earlier)) }
     ensures points { (n : ℕ) (f : Form) (walk : List Visit) → IsWalk n f walk → All (λ v. IsOnWalk n f v.point) walk }
-    ensures reached { (n : ℕ) (f : Form) (way : Way) (z next : List ℚ) → IsForm n f → IsSemidefinite n f.quadratic → IsOnWalk n f z →
+    ensures reached { (n : ℕ) (f : Form) (way : Way) (z next : List ℚ) → IsForm n f → IsSemidefinite n f.quadratic →
+        IsOnWalk n f z →
         GoesOn n f way z next → IsOnWalk n f next }
     ensures shrunk { (n : ℕ) (f : Form) (z : List ℚ) (points : List (List ℚ)) → IsForm n f → IsSemidefinite n f.quadratic →
         IsOnWalk n f z → AreShrinkSteps n f z points → IsOnWalk n f (newest_point z points) }
@@ -38,13 +40,17 @@ pub fn walks_go_on()
 /// The points of a walk from a solution are solutions, and their values never rise. Each is below all earlier stationary
 /// points, so the values at stationary points fall strictly, and the supports of any two of them differ as sets.
 pub fn walk_values_fall()
-    ensures solutions { (n : ℕ) (f : Form) (x : List ℚ) (walk : List Visit) → IsForm n f → IsSemidefinite n f.quadratic → IsSolution f x →
+    ensures solutions { (n : ℕ) (f : Form) (x : List ℚ) (walk : List Visit) → IsForm n f → IsSemidefinite n f.quadratic →
+        IsSolution f x →
         IsWalkFrom n f x walk → All (λ v. IsSolution f v.point) walk }
-    ensures values { (n : ℕ) (f : Form) (x : List ℚ) (walk : List Visit) → IsForm n f → IsSemidefinite n f.quadratic → IsSolution f x →
+    ensures values { (n : ℕ) (f : Form) (x : List ℚ) (walk : List Visit) → IsForm n f → IsSemidefinite n f.quadratic →
+        IsSolution f x →
         IsWalkFrom n f x walk → AllPairs (λ v u. height f v.point ≤ℚ height f u.point) walk }
-    ensures stationary { (n : ℕ) (f : Form) (x : List ℚ) (walk : List Visit) → IsForm n f → IsSemidefinite n f.quadratic → IsSolution f x →
+    ensures stationary { (n : ℕ) (f : Form) (x : List ℚ) (walk : List Visit) → IsForm n f → IsSemidefinite n f.quadratic →
+        IsSolution f x →
         IsWalkFrom n f x walk → AllPairs (λ v u. IsStationary f u.point → height f v.point <ℚ height f u.point) walk }
-    ensures supports { (n : ℕ) (f : Form) (x : List ℚ) (walk : List Visit) → IsForm n f → IsSemidefinite n f.quadratic → IsSolution f x →
+    ensures supports { (n : ℕ) (f : Form) (x : List ℚ) (walk : List Visit) → IsForm n f → IsSemidefinite n f.quadratic →
+        IsSolution f x →
         IsWalkFrom n f x walk →
         AllPairs (λ v u. IsStationary f v.point → IsStationary f u.point → ¬ (HaveSameSupport v.point u.point)) walk }
 {}
@@ -53,13 +59,17 @@ pub fn walk_values_fall()
 /// step and the next; so its points are few, too. A budget of price steps can be used up only where it is at least two less
 /// than the number of sets.
 pub fn walks_are_short()
-    ensures prices { (n : ℕ) (f : Form) (x : List ℚ) (walk : List Visit) → IsForm n f → IsSemidefinite n f.quadratic → IsSolution f x →
+    ensures prices { (n : ℕ) (f : Form) (x : List ℚ) (walk : List Visit) → IsForm n f → IsSemidefinite n f.quadratic →
+        IsSolution f x →
         IsWalkFrom n f x walk → price_steps walk < 2 ^ n }
-    ensures shrinks { (n : ℕ) (f : Form) (x : List ℚ) (walk : List Visit) → IsForm n f → IsSemidefinite n f.quadratic → IsSolution f x →
+    ensures shrinks { (n : ℕ) (f : Form) (x : List ℚ) (walk : List Visit) → IsForm n f → IsSemidefinite n f.quadratic →
+        IsSolution f x →
         IsWalkFrom n f x walk → last_shrinks walk ≤ n }
-    ensures points { (n : ℕ) (f : Form) (x : List ℚ) (walk : List Visit) → IsForm n f → IsSemidefinite n f.quadratic → IsSolution f x →
+    ensures points { (n : ℕ) (f : Form) (x : List ℚ) (walk : List Visit) → IsForm n f → IsSemidefinite n f.quadratic →
+        IsSolution f x →
         IsWalkFrom n f x walk → length walk ≤ 2 ^ n * (n + 1) }
-    ensures budget { (n : ℕ) (f : Form) (budget : ℕ) (z : List ℚ) → IsForm n f → IsSemidefinite n f.quadratic → IsSpentWalk n f budget z →
+    ensures budget { (n : ℕ) (f : Form) (budget : ℕ) (z : List ℚ) → IsForm n f → IsSemidefinite n f.quadratic →
+        IsSpentWalk n f budget z →
         budget + 2 ≤ 2 ^ n }
 {}
 
