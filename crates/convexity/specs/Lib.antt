@@ -1,0 +1,6 @@
+pub mod Chain
+pub mod Half
+pub mod Reduction
+pub mod ReductionCalculation
+pub mod ReductionOperations
+pub mod Meaning
