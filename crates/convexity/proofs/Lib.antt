@@ -1,1 +1,4 @@
+pub mod Entries
+pub mod Forms
+pub mod Curved
 pub mod WorkedReduction
