@@ -1,4 +1,5 @@
 pub mod Entries
 pub mod Forms
 pub mod Curved
+pub mod Ended
 pub mod WorkedReduction
