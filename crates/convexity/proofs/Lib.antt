@@ -2,4 +2,5 @@ pub mod Entries
 pub mod Forms
 pub mod Curved
 pub mod Ended
+pub mod Onto
 pub mod WorkedReduction

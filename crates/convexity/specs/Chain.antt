@@ -1,5 +1,5 @@
 -- Calculations: operations in order, up to the first that is refused.
-use Rattle.std.specs.Prelude.{List, Result, Ok, Err}
+use Rattle.std.specs.Prelude.{◌≡◌, List, Result, Ok, Err}
 use Rattle.rational.specs.Rational.{ℚ}
 use Rattle.frac_core.specs.Calculated.{tried}
 use Rattle.frac_core.specs.Row.{Row, Entries, Refusal}
@@ -27,3 +27,8 @@ op o x y = answered (tried o x y)
 abbrev pub row_answered : Row → Result (List ℚ) Refused
 row_answered (Entries row) = Ok row
 row_answered (Refusal r) = Err r
+
+-- a calculation leaves this behind, or ends with the call's refusal
+abbrev pub Leaves : {A : Type 0} → A → Result (Unit {0}) Refused → Result A Refused → Type 0
+Leaves left (Ok u) step = step ≡ Ok left
+Leaves left (Err r) step = step ≡ Err r

@@ -4,3 +4,4 @@ pub mod Reduction
 pub mod ReductionCalculation
 pub mod ReductionOperations
 pub mod Meaning
+pub mod Onto

@@ -1,6 +1,8 @@
 //! Squares that sum to the form of a program, or a vector with a negative form.
 #![tactic(auto)]
 
+mod rows;
+
 use frac_core::{Frac, Vector};
 use program_law::Squares;
 
