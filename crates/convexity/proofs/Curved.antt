@@ -26,7 +26,7 @@ use Rattle.convexity.specs.declared.Curvature.TheVariants.{Squares, Negative}
 use Rattle.convexity.specs.Half.{upper_half, IsHalf, half_at, IsSymmetric}
 use Rattle.convexity.specs.Meaning.{IsCurvatureOf}
 use Rattle.convexity.specs.Reduction.{first_place, tilt, tilted, less_products, with_zero, after_zero, after_square, flat, by_sign, curvature_from, curvature_of}
-use Rattle.convexity.proofs.Entries.{half-at, at-divided, length-divided, is_half_less, less_at, no_place, place_found}
+use Rattle.convexity.proofs.Entries.{is_half, half-at, at-divided, length-divided, is_half_less, less_at, no_place, place_found}
 use Rattle.convexity.proofs.Forms.{half_form, form_is_half, bordered, half_form_zeros, dot_one, half_form_one, dot_times, half_form_less}
 
 -- what the answer of the upper half of a matrix of n places says
@@ -206,4 +206,4 @@ right_of_matrix q (Negative z) s h = subst (λ (t : ℚ). t <ℚ zero_ℚ) (sym 
 
 -- the answer of a symmetric matrix
 pub curved : (q : List (List ℚ)) → IsSymmetric q → IsCurvatureOf q (curvature_of q)
-curved q s = right_of_matrix q (curvature_of q) s (curvature_right (length q) (upper_half q) s.square)
+curved q s = right_of_matrix q (curvature_of q) s (curvature_right (length q) (upper_half q) (is_half q s))

@@ -37,7 +37,7 @@ use Rattle.convexity.specs.Half.{upper_half, IsHalf, IsSymmetric}
 use Rattle.convexity.specs.Reduction.{first_place, tilt, tilted, less_products, after_zero, after_square, flat, by_sign, curvature_from, curvature_of}
 use Rattle.convexity.specs.ReductionCalculation.{tilt_in, less_product, less_products_in, after_square_in, flat_in, by_sign_in, squares_from, squares_of}
 use Rattle.convexity.specs.ReductionOperations.{tilt_ops, less_product_ops, less_products_ops, after_square_ops, flat_ops, by_sign_ops, squares_ops_from, squares_ops}
-use Rattle.convexity.proofs.Entries.{length-divided, is_half_less}
+use Rattle.convexity.proofs.Entries.{is_half, length-divided, is_half_less}
 
 -- these operations in order end with this value, or with the first of them that is past
 abbrev pub Ends : {A : Type 0} → List Refused → A → Result A Refused → Type 0
@@ -233,7 +233,7 @@ ends_from (suc n) ((d ∷ r) ∷ rows) h = ends_by_sign n d r rows (rational_cmp
 
 -- the calculation of a matrix
 pub ends_of : (q : List (List ℚ)) → IsSymmetric q → Ends (squares_ops q) (curvature_of q) (squares_of q)
-ends_of q s = ends_from (length q) (upper_half q) s.square
+ends_of q s = ends_from (length q) (upper_half q) (is_half q s)
 
 pub answer_is_exact : (ops : List Refused) (x c : Curvature) (t : Result Curvature Refused) → t ≡ Ok c → Ends ops x t → (c ≡ x) × All (IsWithin max_part) ops
 answer_is_exact ops x c t e h = subst (λ u. Ends ops x u) e h

@@ -1,6 +1,8 @@
 -- The entries of a matrix by its upper half, and of its rows less a product.
-use Rattle.std.specs.Prelude.{◌≡◌, ℕ, zero, suc, ◌+◌, ◌<◌, pos, List, [], ◌∷◌, drop, length, map, Option, Some, None, Bool, true, false, option_map, if◌then◌else◌}
+use Rattle.std.specs.Prelude.{◌≡◌, ℕ, zero, suc, ◌+◌, ◌<◌, pos, List, [], ◌∷◌, drop, length, map, Option, Some, None, Bool, true, false, option_map, if◌then◌else◌, All}
 use Rattle.std.proofs.Common.{refl, sym, ◌∙◌, ap, subst, arith}
+use Rattle.std.proofs.lemmas.List.{length-drop}
+use Rattle.std.proofs.lemmas.List.Elements.{All-head, All-tail}
 use Rattle.algebra.proofs.Polynomial.{minus, ◌⊕◌, ◌⊝◌, ◌⊗◌, ◌≐◌, lit}
 use Rattle.algebra.proofs.Solver.{ring}
 use Rattle.algebra.proofs.Certificate.{prove, scaled, ◌⇐◌}
@@ -10,6 +12,7 @@ use Rattle.rational.specs.Vectors.{add_each, scale}
 use Rattle.rational.proofs.Field.{rationals, mul-reciprocal}
 use Rattle.rational.proofs.Order.{ordered_rationals}
 use Rattle.rational.proofs.Vectors.{length-add_each, length-scale}
+use Rattle.program_law.specs.Program.{Program, IsProgram}
 use Rattle.program_law.specs.Vectors.{at, row_at}
 use Rattle.exact_matrix.specs.Elimination.{divided}
 use Rattle.convexity.specs.Half.{upper_from, upper_half, IsHalf, half_at, IsSymmetric}
@@ -38,6 +41,29 @@ half-at q j k h =
     let e : (m : ℕ) → 0 + m ≡ m = λ m. omega arith in
     upper_entry 0 q j k (λ j k. ap (λ (m : ℕ). at (row_at q j) m) (e k) ∙ h j k ∙ ap (λ (m : ℕ). at (row_at q k) m) (sym (e j)))
     ∙ ap (λ (m : ℕ). at (row_at q j) m) (e k)
+
+upper_is_half : (i m : ℕ) (rows : List (List ℚ)) → length rows ≡ m → All (λ row. length row ≡ i + m) rows → IsHalf m (upper_from i rows)
+upper_is_half i zero [] l h = tt
+upper_is_half i zero (row ∷ rows) l h = absurd (omega arith)
+upper_is_half i (suc m) [] l h = absurd (omega arith)
+upper_is_half i (suc m) (row ∷ rows) l h =
+    let w : length row ≡ i + suc m = All-head (λ row. length row ≡ i + suc m) row rows h in
+    let e : i + suc m ≡ suc i + m = omega arith in
+    (rw length-drop (omega arith),
+    upper_is_half (suc i) m rows (omega arith) (subst (λ (k : ℕ). All (λ row. length row ≡ k) rows) e (All-tail (λ row. length row ≡ i + suc m) row rows h)))
+
+pub is_half : (q : List (List ℚ)) → IsSymmetric q → IsHalf (length q) (upper_half q)
+is_half q s =
+    let e : length q ≡ 0 + length q = omega arith in
+    upper_is_half 0 (length q) q refl (subst (λ (k : ℕ). All (λ row. length row ≡ k) q) e s.square)
+
+-- a program's form
+pub program_symmetric : (p : Program) → IsProgram p → IsSymmetric p.pairs
+program_symmetric p h =
+    record {
+      square = subst (λ (k : ℕ). All (λ row. length row ≡ k) p.pairs) (sym h.pairs_height) h.pairs_width;
+      same = h.symmetric;
+    }
 
 -- the entries are those of a symmetric matrix
 pub half_turned : (rows : List (List ℚ)) (j k : ℕ) → half_at rows j k ≡ half_at rows k j

@@ -3,4 +3,5 @@ pub mod Forms
 pub mod Curved
 pub mod Ended
 pub mod Onto
+pub mod Triangles
 pub mod WorkedReduction

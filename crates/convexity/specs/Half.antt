@@ -1,5 +1,5 @@
 -- A symmetric matrix by its upper half: of each row the entries from the diagonal on.
-use Rattle.std.specs.Prelude.{◌≡◌, ℕ, zero, suc, List, [], ◌∷◌, drop, length}
+use Rattle.std.specs.Prelude.{◌≡◌, ℕ, zero, suc, List, [], ◌∷◌, drop, length, All}
 use Rattle.rational.specs.Rational.{ℚ, zero_ℚ}
 use Rattle.program_law.specs.Vectors.{at, row_at}
 
@@ -28,5 +28,5 @@ half_at (row ∷ rows) (suc j) (suc k) = half_at rows j k
 
 -- a matrix of as many columns as rows that is its own transpose
 pub record IsSymmetric (q : List (List ℚ)) : Type 0 where
-  pub square : IsHalf (length q) (upper_half q)
+  pub square : All (λ row. length row ≡ length q) q
   pub same : (j k : ℕ) → at (row_at q j) k ≡ at (row_at q k) j

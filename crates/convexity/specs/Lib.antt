@@ -5,3 +5,4 @@ pub mod ReductionCalculation
 pub mod ReductionOperations
 pub mod Meaning
 pub mod Onto
+pub mod Triangle

@@ -1,6 +1,7 @@
 //! Squares that sum to the form of a program, or a vector with a negative form.
 #![tactic(auto)]
 
+mod half;
 mod rows;
 
 use frac_core::{Frac, Vector};
