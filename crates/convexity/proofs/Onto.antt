@@ -1,6 +1,6 @@
 -- Rows written one entry after another are the rows of the calculation.
-use Rattle.std.specs.Prelude.{◌≡◌, List, [], ◌∷◌, ◌++◌, Result, Ok, Err}
-use Rattle.std.proofs.Common.{refl, sym, ◌∙◌, ap, append_assoc, append-nil}
+use Rattle.std.specs.Prelude.{◌≡◌, ◌<◌, List, [], ◌∷◌, ◌++◌, take, drop, length, slice_index_or, slice_set, Result, Ok, Err}
+use Rattle.std.proofs.Common.{refl, sym, ◌∙◌, ap, arith, append_assoc, append-nil}
 use Rattle.rational.specs.Rational.{ℚ, zero_ℚ}
 use Rattle.frac_core.specs.Parts.{max_part}
 use Rattle.frac_core.specs.Calculated.{and_then}
@@ -9,6 +9,7 @@ use Rattle.frac_core.specs.Row.{Row, Entries, Refusal, entry_then, less_step, ro
 use Rattle.frac_core.specs.declared.fractions.Refused.{Refused}
 use Rattle.frac_core.specs.declared.fractions.Tried.{Tried}
 use Rattle.frac_core.specs.declared.fractions.Tried.TheVariants.{Is, Past}
+use Rattle.program_law.specs.Vectors.{at}
 use Rattle.exact_matrix.specs.EliminationCalculation.{divide_step, divided_in}
 use Rattle.convexity.specs.Chain.{◌>>=◌, answered, row_answered}
 use Rattle.convexity.specs.Onto.{divided_onto, less_onto, dot_onto}
@@ -19,7 +20,7 @@ answered_then (Is q) f = refl
 answered_then (Past r) f = refl
 
 -- what is written before, and then a row
-abbrev before : List ℚ → Result (List ℚ) Refused → Result (List ℚ) Refused
+abbrev pub before : List ℚ → Result (List ℚ) Refused → Result (List ℚ) Refused
 before done row = row >>= λ qs. Ok (done ++ qs)
 
 one_more : (done : List ℚ) (t : Tried) (row : Row) → (answered t >>= λ q. before (done ++ q ∷ []) (row_answered row)) ≡ before done (row_answered (entry_then t row))
@@ -31,7 +32,7 @@ each : (t : Tried) (f g : ℚ → Result (List ℚ) Refused) → ((q : ℚ) → 
 each (Is q) f g h = h q
 each (Past r) f g h = refl
 
-divided_onto_is : (d : ℚ) (done r : List ℚ) → divided_onto d done r ≡ before done (row_answered (divided_in max_part d r))
+pub divided_onto_is : (d : ℚ) (done r : List ℚ) → divided_onto d done r ≡ before done (row_answered (divided_in max_part d r))
 unfolding divided_in
 divided_onto_is d done [] = ap (λ (l : List ℚ). Ok l) (sym (append-nil done))
 divided_onto_is d done (x ∷ r) =
@@ -71,3 +72,10 @@ dot_onto_is total (x ∷ xs) (y ∷ ys) = by_step (dot_step max_part total x y) 
 
 pub all_dot : (xs ys : List ℚ) → dot_onto zero_ℚ xs ys ≡ answered (dot_of max_part xs ys)
 all_dot xs ys = dot_onto_is zero_ℚ xs ys
+
+-- the first entry written
+pub divided_start : (row v : List ℚ) (d : ℚ) → 0 < length row → length v ≡ length row → d ≡ slice_index_or row 0 d
+    → (divided_onto d (take 1 (slice_set v 0 d)) (drop 1 row) ≡ divided_onto (at row 0) (at row 0 ∷ []) (drop 1 row)) × (d ≡ at row 0) × (length (slice_set v 0 d) ≡ length row)
+divided_start [] v d h l e = absurd (omega arith)
+divided_start (x ∷ row) [] d h l e = absurd (omega arith)
+divided_start (x ∷ row) (y ∷ v) d h l e = (ap (λ (t : ℚ). divided_onto t (t ∷ []) row) e, e, l)

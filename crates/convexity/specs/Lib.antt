@@ -6,3 +6,4 @@ pub mod ReductionOperations
 pub mod Meaning
 pub mod Onto
 pub mod Triangle
+pub mod Places

@@ -2,6 +2,7 @@
 #![tactic(auto)]
 
 mod half;
+mod reduction;
 mod rows;
 
 use frac_core::{Frac, Vector};

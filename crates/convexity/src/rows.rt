@@ -6,8 +6,9 @@ ghost use Rattle.exact_matrix.specs.EliminationCalculation.{divide_step};
 ghost use Rattle.frac_core.specs.Dot.{dot_step};
 ghost use Rattle.frac_core.specs.Parts.{max_part};
 ghost use Rattle.frac_core.specs.Row.{less_step};
+ghost use Rattle.program_law.specs.Vectors.{at};
 ghost use Rattle.rational.specs.Rational.{zero_ℚ};
-ghost use Rattle.std.specs.Prelude.{◌≡◌, ◌≢◌, ◌≤◌, ◌+◌, ◌<◌, [], drop, length, pos, slice_index_or};
+ghost use Rattle.std.specs.Prelude.{◌≡◌, ◌≢◌, ◌≤◌, ◌+◌, ◌<◌, ◌∷◌, [], drop, length, pos, slice_index_or};
 
 use frac_core::{Frac, Refused, Tried, Vector, is_zero};
 
@@ -33,13 +34,17 @@ fn quotient(x: Frac, d: Frac) -> Result<Frac, Refused>
     answered(x / d)
 }
 
-// Divides each entry by `d`, and stops with the first refusal.
-pub fn divide(row: &mut [Frac], d: Frac) -> Result<(), Refused>
-    requires { d.num ≢ pos 0 }
-    ensures { Leaves row.new result (divided_onto d [] row.old) }
+// Writes into `v` the row, with each entry after the first divided by it.
+pub fn divide_onto(row: &[Frac], v: &mut [Frac]) -> Result<(), Refused>
+    requires some { 0 < length row.now }
+    requires room { length v.old ≡ length row.now }
+    requires divisor { (at row.now 0).num ≢ pos 0 }
+    ensures { Leaves v.new result (divided_onto (at row.now 0) (at row.now 0 ∷ []) (drop 1 row.now)) }
 {
-    for i in 0..row.len() {
-        row[i] = quotient(row[i], d)?;
+    let d = row[0];
+    v[0] = d;
+    for k in 1..row.len() {
+        v[k] = quotient(row[k], d)?;
     }
     Ok(())
 }
