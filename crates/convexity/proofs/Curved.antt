@@ -3,7 +3,9 @@ use Rattle.std.specs.Prelude.{◌≡◌, ℕ, zero, suc, ◌<◌, pos, ◌*ℤ�
 use Rattle.std.specs.declared.cmp.Ordering.{Ordering}
 use Rattle.std.specs.declared.cmp.Ordering.TheVariants.{Less, Equal, Greater}
 use Rattle.std.proofs.Common.{refl, sym, ◌∙◌, ap, subst, arith, ⊎_elim}
+use Rattle.std.specs.List.{AllByRecursion}
 use Rattle.std.proofs.lemmas.Cmp.{int_ranked}
+use Rattle.std.proofs.lemmas.List.Elements.{All-from_recursion}
 use Rattle.algebra.proofs.Polynomial.{minus, ◌⊕◌, ◌⊝◌, ◌⊗◌, ◌≐◌, ◌≺◌, ◌≼◌, lit}
 use Rattle.algebra.proofs.Solver.{ring}
 use Rattle.algebra.proofs.Certificate.{prove, given, scaled, square, weight, ◌⊞◌, ◌⊠◌, ◌⇐◌}
@@ -12,26 +14,27 @@ use Rattle.rational.specs.Order.{rational_cmp, ◌<ℚ◌, ◌≤ℚ◌}
 use Rattle.rational.specs.Vectors.{zeros}
 use Rattle.rational.proofs.Field.{rationals, mul-reciprocal}
 use Rattle.rational.proofs.Order.{ordered_rationals, le_or_lt, le_antisymm, square_nonneg, mul_positive, lt_irrefl}
-use Rattle.rational.proofs.OrderLaws.{ne_of_lt, reciprocal_positive, lt-le_trans}
+use Rattle.rational.proofs.OrderLaws.{ne_of_lt, not-le_of_lt, reciprocal_positive, lt-le_trans}
 use Rattle.rational.proofs.Division.{mul-ne-zero}
 use Rattle.rational.proofs.Vectors.{length-zeros, dot-zeros_right}
 use Rattle.program_law.specs.declared.Square.{Square}
 use Rattle.program_law.specs.Tests.{is_positive}
-use Rattle.program_law.specs.Vectors.{at, row_at, dot}
+use Rattle.program_law.specs.Vectors.{at, row_at, dot, form}
 use Rattle.program_law.proofs.Numbers.{positive_above, above_positive}
 use Rattle.certificate_law.specs.Squares.{squares_sum, ArePositive, AreSquaresOf}
+use Rattle.certificate_law.proofs.Semidefinite.{squares_semidefinite}
 use Rattle.exact_matrix.specs.Elimination.{divided}
 use Rattle.convexity.specs.declared.Curvature.{Curvature}
 use Rattle.convexity.specs.declared.Curvature.TheVariants.{Squares, Negative}
 use Rattle.convexity.specs.Half.{upper_half, IsHalf, half_at, IsSymmetric}
-use Rattle.convexity.specs.Meaning.{IsCurvatureOf}
+use Rattle.convexity.specs.Meaning.{HasWidth, IsCurvatureOf}
 use Rattle.convexity.specs.Reduction.{first_place, tilt, tilted, less_products, with_zero, after_zero, after_square, flat, by_sign, curvature_from, curvature_of}
 use Rattle.convexity.proofs.Entries.{is_half, half-at, at-divided, length-divided, is_half_less, less_at, no_place, place_found}
 use Rattle.convexity.proofs.Forms.{half_form, form_is_half, bordered, half_form_zeros, dot_one, half_form_one, dot_times, half_form_less}
 
 -- what the answer of the upper half of a matrix of n places says
 abbrev pub IsRight : ℕ → List (List ℚ) → Curvature → Type 0
-IsRight n rows (Squares ss) = ArePositive ss × ((j k : ℕ) → half_at rows j k ≡ squares_sum ss j k)
+IsRight n rows (Squares ss) = ArePositive ss × ((j k : ℕ) → half_at rows j k ≡ squares_sum ss j k) × AllByRecursion (λ s. length s.coef ≡ n) ss
 IsRight n rows (Negative z) = (length z ≡ n) × (half_form rows z <ℚ zero_ℚ)
 
 -- ---- squares with a place before them
@@ -56,11 +59,15 @@ still_positive : (ss : List Square) → ArePositive ss → ArePositive (map with
 still_positive [] h = tt
 still_positive (s ∷ ss) h = (h.0, still_positive ss h.1)
 
+longer : (n : ℕ) (ss : List Square) → AllByRecursion (λ s. length s.coef ≡ n) ss → AllByRecursion (λ s. length s.coef ≡ suc n) (map with_zero ss)
+longer n [] h = h
+longer n (s ∷ ss) h = (ap suc h.0, longer n ss h.1)
+
 -- ---- carried back over a place
 
 right_after_zero : (n : ℕ) (d : ℚ) (r : List ℚ) (rows : List (List ℚ)) (c : Curvature) → ((k : ℕ) → at (d ∷ r) k ≡ zero_ℚ)
     → IsRight n rows c → IsRight (suc n) ((d ∷ r) ∷ rows) (after_zero c)
-right_after_zero n d r rows (Squares ss) e h = (still_positive ss h.0, entries)
+right_after_zero n d r rows (Squares ss) e h = (still_positive ss h.0, entries, longer n ss h.2)
   where
     entries : (j k : ℕ) → half_at ((d ∷ r) ∷ rows) j k ≡ squares_sum (map with_zero ss) j k
     entries zero k = e k ∙ sym (sum_before ss k)
@@ -76,7 +83,7 @@ right_after_zero n d r rows (Negative z) e h = (
 
 right_after_square : (n : ℕ) (d : ℚ) (r : List ℚ) (rows : List (List ℚ)) (c : Curvature) → zero_ℚ <ℚ d → length r ≡ n → IsHalf n rows
     → IsRight n (less_products r (divided d r) rows) c → IsRight (suc n) ((d ∷ r) ∷ rows) (after_square d (divided d r) c)
-right_after_square n d r rows (Squares ss) above l s h = ((above, still_positive ss h.0), entries)
+right_after_square n d r rows (Squares ss) above l s h = ((above, still_positive ss h.0), entries, (ap suc (length-divided d r ∙ l), longer n ss h.2))
   where
     row : (k : ℕ) → at r k ≡ d *ℚ at (divided d r) k
     row k = at-divided d r k (ne_of_lt above)
@@ -193,7 +200,7 @@ right_by_sign n d r rows rest Greater e l s h =
 
 pub curvature_right : (n : ℕ) (rows : List (List ℚ)) → IsHalf n rows → IsRight n rows (curvature_from n rows)
 unfolding curvature_from
-curvature_right zero [] h = (tt, λ j k. refl)
+curvature_right zero [] h = (tt, λ j k. refl, tt)
 curvature_right zero (row ∷ rows) h = absurd h
 curvature_right (suc n) [] h = absurd h
 curvature_right (suc n) ([] ∷ rows) h = absurd (omega (arith, h.0))
@@ -204,6 +211,21 @@ right_of_matrix : (q : List (List ℚ)) (c : Curvature) → IsSymmetric q → Is
 right_of_matrix q (Squares ss) s h = record { positive = h.0; sum = λ j k. sym (half-at q j k s.same) ∙ h.1 j k }
 right_of_matrix q (Negative z) s h = subst (λ (t : ℚ). t <ℚ zero_ℚ) (sym (form_is_half q z s.same)) h.1
 
+width_of_matrix : (n : ℕ) (rows : List (List ℚ)) (c : Curvature) → IsRight n rows c → HasWidth n c
+width_of_matrix n rows (Squares ss) h = All-from_recursion (λ s. length s.coef ≡ n) ss h.2
+width_of_matrix n rows (Negative z) h = h.0
+
 -- the answer of a symmetric matrix
 pub curved : (q : List (List ℚ)) → IsSymmetric q → IsCurvatureOf q (curvature_of q)
 curved q s = right_of_matrix q (curvature_of q) s (curvature_right (length q) (upper_half q) (is_half q s))
+
+pub curved_width : (q : List (List ℚ)) → IsSymmetric q → HasWidth (length q) (curvature_of q)
+curved_width q s = width_of_matrix (length q) (upper_half q) (curvature_of q) (curvature_right (length q) (upper_half q) (is_half q s))
+
+-- where some vector has a negative form, the answer is such a vector
+pub negative_found : (q : List (List ℚ)) (u : List ℚ) → IsSymmetric q → form q u u <ℚ zero_ℚ → (v : List ℚ) × (curvature_of q ≡ Negative v)
+negative_found q u s below = by_answer (curvature_of q) (curved q s) refl
+  where
+    by_answer : (c : Curvature) → IsCurvatureOf q c → curvature_of q ≡ c → (v : List ℚ) × (curvature_of q ≡ Negative v)
+    by_answer (Squares ss) h e = absurd (not-le_of_lt below ((squares_semidefinite q ss h).not_negative u))
+    by_answer (Negative v) h e = (v, e)

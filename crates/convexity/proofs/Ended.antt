@@ -235,8 +235,11 @@ ends_from (suc n) ((d ∷ r) ∷ rows) h = ends_by_sign n d r rows (rational_cmp
 pub ends_of : (q : List (List ℚ)) → IsSymmetric q → Ends (squares_ops q) (curvature_of q) (squares_of q)
 ends_of q s = ends_from (length q) (upper_half q) (is_half q s)
 
-pub answer_is_exact : (ops : List Refused) (x c : Curvature) (t : Result Curvature Refused) → t ≡ Ok c → Ends ops x t → (c ≡ x) × All (IsWithin max_part) ops
-answer_is_exact ops x c t e h = subst (λ u. Ends ops x u) e h
+pub answer_is_exact : (q : List (List ℚ)) (c : Curvature) → IsSymmetric q → squares_of q ≡ Ok c → c ≡ curvature_of q
+answer_is_exact q c s e = (let h : Ends (squares_ops q) (curvature_of q) (Ok c) = subst (λ (a : Result Curvature Refused). Ends (squares_ops q) (curvature_of q) a) e (ends_of q s) in h.0)
 
-pub refusal_is_first : (ops : List Refused) (x : Curvature) (r : Refused) (t : Result Curvature Refused) → t ≡ Err r → Ends ops x t → IsFirstPast max_part ops r
-refusal_is_first ops x r t e h = subst (λ u. Ends ops x u) e h
+pub answer_is_within : (q : List (List ℚ)) (c : Curvature) → IsSymmetric q → squares_of q ≡ Ok c → All (IsWithin max_part) (squares_ops q)
+answer_is_within q c s e = (let h : Ends (squares_ops q) (curvature_of q) (Ok c) = subst (λ (a : Result Curvature Refused). Ends (squares_ops q) (curvature_of q) a) e (ends_of q s) in h.1)
+
+pub refusal_is_first : (q : List (List ℚ)) (r : Refused) → IsSymmetric q → squares_of q ≡ Err r → IsFirstPast max_part (squares_ops q) r
+refusal_is_first q r s e = subst (λ (a : Result Curvature Refused). Ends (squares_ops q) (curvature_of q) a) e (ends_of q s)

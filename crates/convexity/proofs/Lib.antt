@@ -4,5 +4,6 @@ pub mod Curved
 pub mod Ended
 pub mod Onto
 pub mod Steps
+pub mod Answered
 pub mod Triangles
 pub mod WorkedReduction

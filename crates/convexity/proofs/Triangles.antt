@@ -166,7 +166,7 @@ upper_more q j row xs ys h e inv step =
     joined_more (upper_half q) j (drop j row) xs ys
     (upper_row 0 q j h ∙ ap (λ (k : ℕ). Some (drop k (row_at q j))) (omega arith) ∙ ap (λ (r : List ℚ). Some (drop j r)) (sym e)) inv (step ∙ ap (λ (r : List ℚ). xs ++ r) all)
 
-length-upper : (i : ℕ) (q : List (List ℚ)) → length (upper_from i q) ≡ length q
+pub length-upper : (i : ℕ) (q : List (List ℚ)) → length (upper_from i q) ≡ length q
 length-upper i [] = refl
 length-upper i (row ∷ q) = ap suc (length-upper (suc i) q)
 
