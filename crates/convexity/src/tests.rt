@@ -2,109 +2,142 @@
 
 use crate::{Curvature, squares};
 use exact_matrix::Stop;
-use frac_core::{Frac, Vector};
-use program_model::{Column, Name, Program};
+use frac_core::{Frac, Op, Refused, Vector};
+use program_law::Squares;
+use program_model::{Column, Name, Program, is_marker};
 use std::alloc::Global;
 use std::test::Fail;
 
 const MAX: i128 = i128::MAX;
 
-fn named(alloc: Global, letter: u8) -> Option<Name> {
-    Name::of(alloc, &[letter]).ok()
+fn name(alloc: Global, letter: u8) -> Result<Name, Fail> {
+    Ok(Name::of(alloc, &[letter])?)
 }
 
-fn with_column(p: &mut Program, alloc: Global, letter: u8) -> Option<u32> {
+fn start(alloc: Global) -> Result<Program, Fail> {
+    let objective = name(alloc, b'o')?;
+    if is_marker(objective.bytes()) {
+        return Err(Fail::new("a marker"));
+    }
+    Ok(Program::start(alloc, objective)?)
+}
+
+fn add_column(p: &mut Program, alloc: Global, letter: u8) -> Result<(), Fail> {
     let column = Column {
         low: None,
         high: None,
         whole: false,
     };
-    p.add_column(named(alloc, letter)?, column).ok()
+    p.add_column(name(alloc, letter)?, column)?;
+    Ok(())
 }
 
-// The program with as many columns as a triangle of these numbers has rows, and the numbers in the upper half of its form.
-fn program(alloc: Global, size: u32, numbers: &[i128]) -> Option<Program> {
-    let mut p = Program::start(alloc, named(alloc, b'o')?).ok()?;
-    for j in 0..size {
-        with_column(&mut p, alloc, b'a' + j as u8)?;
-    }
-    let mut next = numbers.iter();
-    for j in 0..p.columns() {
-        for k in j..p.columns() {
-            let value = Frac::of_parts(*next.next()?, 1).ok()?;
-            p.set_pair(j, k, value);
-        }
-    }
-    Some(p)
-}
-
-fn push_vector(text: &mut String, alloc: Global, v: &Vector<Frac>) -> Result<(), Fail> {
-    for i in 0..v.len() {
-        let x = v.at(i);
-        text.push_str(&format!(in alloc; " {x}")?)?;
+// Sets both entries of the form at two columns.
+fn set_pair(p: &mut Program, j: u32, k: u32, value: i128) -> Result<(), Fail> {
+    let value = Frac::of_parts(value, 1)?;
+    if j < p.columns() && k < p.columns() {
+        p.set_pair(j, k, value);
     }
     Ok(())
 }
 
-fn push_curvature(text: &mut String, alloc: Global, curvature: &Curvature) -> Result<(), Fail> {
-    match curvature {
-        Curvature::Negative(z) => {
-            text.push_str("negative")?;
-            push_vector(text, alloc, z)?;
-        }
-        Curvature::Squares(squares) => {
-            for k in 0..squares.len() {
-                let square = squares.get(k);
-                let weight = square.weight;
-                text.push_str(&format!(in alloc; "/ {weight}:")?)?;
-                push_vector(text, alloc, &square.coef)?;
+// The program of `size` columns with these numbers in the upper half of its form, row by row.
+fn program(alloc: Global, size: u8, numbers: &[i128]) -> Result<Program, Fail> {
+    let mut p = start(alloc)?;
+    for j in 0..size {
+        add_column(&mut p, alloc, b'a'.wrapping_add(j))?;
+    }
+    let mut next = numbers.iter();
+    for j in 0..size {
+        for k in j..size {
+            if let Some(value) = next.next() {
+                set_pair(&mut p, j as u32, k as u32, *value)?;
             }
         }
     }
-    Ok(())
+    Ok(p)
 }
 
-// The answer as text.
-fn answer(alloc: Global, size: u32, numbers: &[i128]) -> Result<String, Fail> {
-    let mut text = String::new(alloc);
-    let Some(p) = program(alloc, size, numbers) else {
-        return Ok(text);
-    };
-    match squares(alloc, &p) {
-        Ok(curvature) => push_curvature(&mut text, alloc, &curvature)?,
-        Err(Stop::Memory) => text.push_str("memory")?,
-        Err(Stop::Past(refused)) => {
-            let op = refused.op;
-            let left = refused.left;
-            let right = refused.right;
-            text.push_str(&format!(in alloc; "past {op:?} {left} {right}")?)?;
+// Whether it is the fraction of these parts.
+fn is_number(x: Frac, parts: (i128, i128)) -> bool {
+    x.num() == parts.0 && x.den() == parts.1
+}
+
+// Whether these are the first numbers of a vector.
+fn is_vector(v: &Vector<Frac>, numbers: &[(i128, i128)]) -> bool {
+    for i in 0..numbers.len() {
+        if i >= v.len() || !is_number(v.at(i), numbers[i]) {
+            return false;
         }
     }
-    Ok(text)
+    true
 }
 
-// Whether the answer is this text.
-fn is_answer(alloc: Global, size: u32, numbers: &[i128], text: &str) -> Result<bool, Fail> {
-    let answer = answer(alloc, size, numbers)?;
-    Ok(answer.as_str() == text)
+// Whether the square at a place has this weight and these entries.
+fn is_square(squares: &Squares, k: usize, weight: i128, numbers: &[(i128, i128)]) -> bool {
+    if k >= squares.len() {
+        return false;
+    }
+    let square = squares.get(k);
+    is_number(square.weight, (weight, 1)) && is_vector(&square.coef, numbers)
+}
+
+// The squares of a matrix, where it has squares.
+fn squares_of(alloc: Global, size: u8, numbers: &[i128]) -> Result<Squares, Fail> {
+    let p = program(alloc, size, numbers)?;
+    match squares(alloc, &p) {
+        Ok(Curvature::Squares(squares)) => Ok(squares),
+        _ => Err(Fail::new("no squares")),
+    }
+}
+
+// The vector of a matrix, where it has one.
+fn negative_of(alloc: Global, size: u8, numbers: &[i128]) -> Result<Vector<Frac>, Fail> {
+    let p = program(alloc, size, numbers)?;
+    match squares(alloc, &p) {
+        Ok(Curvature::Negative(v)) => Ok(v),
+        _ => Err(Fail::new("no vector")),
+    }
+}
+
+// The operation that is past, where one is.
+fn past_of(alloc: Global, size: u8, numbers: &[i128]) -> Result<Refused, Fail> {
+    let p = program(alloc, size, numbers)?;
+    match squares(alloc, &p) {
+        Err(Stop::Past(refused)) => Ok(refused),
+        _ => Err(Fail::new("nothing is past")),
+    }
 }
 
 #[test]
-fn squares_and_vectors(rt: HostRuntime) -> Result<(), Fail> {
-    let alloc = rt.alloc();
-    assert!(rt; is_answer(alloc, 0, &[], "")?);
-    assert!(rt; is_answer(alloc, 2, &[2, 0, 8], "/ 2: 1 0/ 8: 0 1")?);
-    assert!(rt; is_answer(alloc, 2, &[0, 1, 0], "negative 1 -1")?);
-    assert!(rt; is_answer(alloc, 2, &[1, 2, 1], "negative -2 1")?);
-    assert!(rt; is_answer(alloc, 2, &[0, 1, 2], "negative 1 -1/2")?);
-    assert!(rt; is_answer(alloc, 3, &[4, 2, 6, 1, 3, 9], "/ 4: 1 1/2 3/2")?);
-    assert!(rt; is_answer(alloc, 3, &[0, 0, 0, 0, 0, 5], "/ 5: 0 0 1")?);
+fn squares_sum_to_the_form(rt: HostRuntime) -> Result<(), Fail> {
+    let two = squares_of(rt.alloc(), 2, &[2, 0, 8])?;
+    assert!(rt; two.len() == 2);
+    assert!(rt; is_square(&two, 0, 2, &[(1, 1), (0, 1)]));
+    assert!(rt; is_square(&two, 1, 8, &[(0, 1), (1, 1)]));
+    let one = squares_of(rt.alloc(), 3, &[4, 2, 6, 1, 3, 9])?;
+    assert!(rt; one.len() == 1);
+    assert!(rt; is_square(&one, 0, 4, &[(1, 1), (1, 2), (3, 2)]));
+    let none = squares_of(rt.alloc(), 0, &[])?;
+    assert!(rt; none.len() == 0);
     Ok(())
 }
 
 #[test]
-fn first_operation_past_the_greatest(rt: HostRuntime) -> Result<(), Fail> {
-    let past = "past Mul 170141183460469231731687303715884105727 170141183460469231731687303715884105727/3";
-    assert!(rt; is_answer(rt.alloc(), 2, &[3, MAX, 0], past)?);
+fn vectors_have_a_negative_form(rt: HostRuntime) -> Result<(), Fail> {
+    let mixed = negative_of(rt.alloc(), 2, &[0, 1, 0])?;
+    assert!(rt; is_vector(&mixed, &[(1, 1), (-1, 1)]));
+    let carried = negative_of(rt.alloc(), 2, &[1, 2, 1])?;
+    assert!(rt; is_vector(&carried, &[(-2, 1), (1, 1)]));
+    let above = negative_of(rt.alloc(), 2, &[0, 1, 2])?;
+    assert!(rt; is_vector(&above, &[(1, 1), (-1, 2)]));
+    Ok(())
+}
+
+#[test]
+fn product_past_the_greatest(rt: HostRuntime) -> Result<(), Fail> {
+    let refused = past_of(rt.alloc(), 2, &[3, MAX, 0])?;
+    assert!(rt; matches!(refused.op, Op::Mul));
+    assert!(rt; is_number(refused.left, (MAX, 1)) && is_number(refused.right, (MAX, 3)));
     Ok(())
 }
