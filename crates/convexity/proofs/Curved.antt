@@ -9,19 +9,19 @@ use Rattle.std.proofs.lemmas.List.Elements.{All-from_recursion}
 use Rattle.algebra.proofs.Polynomial.{minus, ◌⊕◌, ◌⊝◌, ◌⊗◌, ◌≐◌, ◌≺◌, ◌≼◌, lit}
 use Rattle.algebra.proofs.Solver.{ring}
 use Rattle.algebra.proofs.Certificate.{prove, given, scaled, square, weight, ◌⊞◌, ◌⊠◌, ◌⇐◌}
-use Rattle.rational.specs.Rational.{ℚ, zero_ℚ, one_ℚ, whole, neg_ℚ, reciprocal, ◌+ℚ◌, ◌-ℚ◌, ◌*ℚ◌, ◌/ℚ◌, same_cross}
+use Rattle.rational.specs.Rational.{ℚ, zero_ℚ, one_ℚ, neg_ℚ, reciprocal, ◌+ℚ◌, ◌-ℚ◌, ◌*ℚ◌, ◌/ℚ◌, same_cross}
 use Rattle.rational.specs.Order.{rational_cmp, ◌<ℚ◌, ◌≤ℚ◌}
 use Rattle.rational.specs.Vectors.{zeros}
 use Rattle.rational.proofs.Field.{rationals, mul-reciprocal}
-use Rattle.rational.proofs.Order.{ordered_rationals, le_or_lt, le_antisymm, square_nonneg, mul_positive, lt_irrefl}
-use Rattle.rational.proofs.OrderLaws.{ne_of_lt, not-le_of_lt, reciprocal_positive, lt-le_trans}
+use Rattle.rational.proofs.Order.{ordered_rationals, le_or_lt, le_antisymm, square_nonneg, mul_positive}
+use Rattle.rational.proofs.OrderLaws.{ne_of_lt, not-le_of_lt, reciprocal_positive}
 use Rattle.rational.proofs.Division.{mul-ne-zero}
 use Rattle.rational.proofs.Vectors.{length-zeros, dot-zeros_right}
 use Rattle.program_law.specs.declared.Square.{Square}
 use Rattle.program_law.specs.Tests.{is_positive}
 use Rattle.program_law.specs.Vectors.{at, row_at, dot, form}
 use Rattle.program_law.proofs.Numbers.{positive_above, above_positive}
-use Rattle.certificate_law.specs.Squares.{squares_sum, ArePositive, AreSquaresOf}
+use Rattle.certificate_law.specs.Squares.{squares_sum, ArePositive}
 use Rattle.certificate_law.proofs.Semidefinite.{squares_semidefinite}
 use Rattle.exact_matrix.specs.Elimination.{divided}
 use Rattle.convexity.specs.declared.Curvature.{Curvature}
@@ -106,10 +106,10 @@ right_after_square n d r rows (Negative z) above l s h =
     let b = dot (divided d r) z in
     let row : (k : ℕ) → at r k ≡ d *ℚ at (divided d r) k = λ k. at-divided d r k (ne_of_lt above) in
     let same : half_form ((d ∷ r) ∷ rows) (neg_ℚ b ∷ z) ≡ half_form (less_products r (divided d r) rows) z =
-        bordered d r rows (neg_ℚ b) z
-        ∙ ap (λ (t : ℚ). (d *ℚ neg_ℚ b +ℚ t) *ℚ neg_ℚ b +ℚ (neg_ℚ b *ℚ t +ℚ half_form rows z)) (dot_times d r (divided d r) z row)
-        ∙ ring rationals (d ∷ b ∷ half_form rows z ∷ []) (λ d b f. (d ⊗ minus b ⊕ d ⊗ b) ⊗ minus b ⊕ (minus b ⊗ (d ⊗ b) ⊕ f) ≐ f ⊝ (d ⊗ b) ⊗ b) refl
-        ∙ sym (half_form_less n d r (divided d r) rows z l (length-divided d r ∙ l) s row) in
+    bordered d r rows (neg_ℚ b) z
+    ∙ ap (λ (t : ℚ). (d *ℚ neg_ℚ b +ℚ t) *ℚ neg_ℚ b +ℚ (neg_ℚ b *ℚ t +ℚ half_form rows z)) (dot_times d r (divided d r) z row)
+    ∙ ring rationals (d ∷ b ∷ half_form rows z ∷ []) (λ d b f. (d ⊗ minus b ⊕ d ⊗ b) ⊗ minus b ⊕ (minus b ⊗ (d ⊗ b) ⊕ f) ≐ f ⊝ (d ⊗ b) ⊗ b) refl
+    ∙ sym (half_form_less n d r (divided d r) rows z l (length-divided d r ∙ l) s row) in
     (ap suc h.0, subst (λ (t : ℚ). t <ℚ zero_ℚ) (sym same) h.1)
 
 -- ---- vectors that are found
@@ -117,10 +117,10 @@ right_after_square n d r rows (Negative z) above l s h =
 right_below : (n : ℕ) (d : ℚ) (r : List ℚ) (rows : List (List ℚ)) → d <ℚ zero_ℚ → IsRight (suc n) ((d ∷ r) ∷ rows) (Negative (one_ℚ ∷ zeros n))
 right_below n d r rows below =
     let same : half_form ((d ∷ r) ∷ rows) (one_ℚ ∷ zeros n) ≡ d =
-        bordered d r rows one_ℚ (zeros n)
-        ∙ ap (λ (t : ℚ). (d *ℚ one_ℚ +ℚ t) *ℚ one_ℚ +ℚ (one_ℚ *ℚ t +ℚ half_form rows (zeros n))) (dot-zeros_right r n)
-        ∙ ap (λ (t : ℚ). (d *ℚ one_ℚ +ℚ zero_ℚ) *ℚ one_ℚ +ℚ (one_ℚ *ℚ zero_ℚ +ℚ t)) (half_form_zeros rows n)
-        ∙ ring rationals (d ∷ []) (λ d. (d ⊗ lit 1 ⊕ lit 0) ⊗ lit 1 ⊕ (lit 1 ⊗ lit 0 ⊕ lit 0) ≐ d) refl in
+    bordered d r rows one_ℚ (zeros n)
+    ∙ ap (λ (t : ℚ). (d *ℚ one_ℚ +ℚ t) *ℚ one_ℚ +ℚ (one_ℚ *ℚ t +ℚ half_form rows (zeros n))) (dot-zeros_right r n)
+    ∙ ap (λ (t : ℚ). (d *ℚ one_ℚ +ℚ zero_ℚ) *ℚ one_ℚ +ℚ (one_ℚ *ℚ zero_ℚ +ℚ t)) (half_form_zeros rows n)
+    ∙ ring rationals (d ∷ []) (λ d. (d ⊗ lit 1 ⊕ lit 0) ⊗ lit 1 ⊕ (lit 1 ⊗ lit 0 ⊕ lit 0) ≐ d) refl in
     (ap suc (length-zeros n), subst (λ (t : ℚ). t <ℚ zero_ℚ) (sym same) below)
 
 square_positive : (b : ℚ) → ¬ (b ≡ zero_ℚ) → zero_ℚ <ℚ (b *ℚ b)
@@ -163,11 +163,11 @@ right_tilted n d r rows k zero_d l e =
     let within : k < n = omega (arith, found.0) in
     let u = slice_set (zeros n) k t in
     let same : half_form ((d ∷ r) ∷ rows) (one_ℚ ∷ u) ≡ tilted_form b c t =
-        bordered d r rows one_ℚ u
-        ∙ ap (λ (s : ℚ). (d *ℚ one_ℚ +ℚ s) *ℚ one_ℚ +ℚ (one_ℚ *ℚ s +ℚ half_form rows u)) (dot_one r n k t within)
-        ∙ ap (λ (s : ℚ). (d *ℚ one_ℚ +ℚ b *ℚ t) *ℚ one_ℚ +ℚ (one_ℚ *ℚ (b *ℚ t) +ℚ s)) (half_form_one rows n k t within)
-        ∙ ap (λ (s : ℚ). (s *ℚ one_ℚ +ℚ b *ℚ t) *ℚ one_ℚ +ℚ (one_ℚ *ℚ (b *ℚ t) +ℚ (c *ℚ t) *ℚ t)) zero_d
-        ∙ ring rationals (b ∷ c ∷ t ∷ []) (λ b c t. (lit 0 ⊗ lit 1 ⊕ b ⊗ t) ⊗ lit 1 ⊕ (lit 1 ⊗ (b ⊗ t) ⊕ (c ⊗ t) ⊗ t) ≐ (b ⊗ t ⊕ b ⊗ t) ⊕ (c ⊗ t) ⊗ t) refl in
+    bordered d r rows one_ℚ u
+    ∙ ap (λ (s : ℚ). (d *ℚ one_ℚ +ℚ s) *ℚ one_ℚ +ℚ (one_ℚ *ℚ s +ℚ half_form rows u)) (dot_one r n k t within)
+    ∙ ap (λ (s : ℚ). (d *ℚ one_ℚ +ℚ b *ℚ t) *ℚ one_ℚ +ℚ (one_ℚ *ℚ (b *ℚ t) +ℚ s)) (half_form_one rows n k t within)
+    ∙ ap (λ (s : ℚ). (s *ℚ one_ℚ +ℚ b *ℚ t) *ℚ one_ℚ +ℚ (one_ℚ *ℚ (b *ℚ t) +ℚ (c *ℚ t) *ℚ t)) zero_d
+    ∙ ring rationals (b ∷ c ∷ t ∷ []) (λ b c t. (lit 0 ⊗ lit 1 ⊕ b ⊗ t) ⊗ lit 1 ⊕ (lit 1 ⊗ (b ⊗ t) ⊕ (c ⊗ t) ⊗ t) ≐ (b ⊗ t ⊕ b ⊗ t) ⊕ (c ⊗ t) ⊗ t) refl in
     (ap suc (length-set_zeros n k t), subst (λ (s : ℚ). s <ℚ zero_ℚ) (sym same) (tilt_falls b c found.1))
   where
     length-set_zeros : (n k : ℕ) (t : ℚ) → length (slice_set (zeros n) k t) ≡ n

@@ -1,5 +1,5 @@
 -- The calculation ends with the exact answer, where all its operations are within the bound, and else with the first that is past.
-use Rattle.std.specs.Prelude.{◌≡◌, ℕ, zero, suc, ◌<◌, pos, List, [], ◌∷◌, ◌++◌, length, map, Option, Some, None, Bool, true, false, if◌then◌else◌, Result, Ok, Err}
+use Rattle.std.specs.Prelude.{◌≡◌, ℕ, zero, suc, List, [], ◌∷◌, ◌++◌, length, Option, Some, None, Bool, true, false, if◌then◌else◌, Result, Ok, Err}
 use Rattle.std.specs.declared.cmp.Ordering.{Ordering}
 use Rattle.std.specs.declared.cmp.Ordering.TheVariants.{Less, Equal, Greater}
 use Rattle.std.specs.List.{All}
@@ -8,7 +8,7 @@ use Rattle.std.proofs.lemmas.List.Elements.{All-nil, All-append}
 use Rattle.algebra.proofs.Polynomial.{minus, ◌⊕◌, ◌⊝◌, ◌⊗◌, ◌≐◌, lit}
 use Rattle.algebra.proofs.Solver.{ring}
 use Rattle.algebra.proofs.Ring as laws
-use Rattle.rational.specs.Rational.{ℚ, zero_ℚ, one_ℚ, neg_ℚ, reciprocal, ◌+ℚ◌, ◌-ℚ◌, ◌*ℚ◌, ◌/ℚ◌}
+use Rattle.rational.specs.Rational.{ℚ, zero_ℚ, one_ℚ, neg_ℚ, reciprocal, ◌+ℚ◌, ◌*ℚ◌, ◌/ℚ◌}
 use Rattle.rational.specs.Order.{rational_cmp, same_fields, same_fields_lem}
 use Rattle.rational.specs.Vectors.{add_each, scale, zeros}
 use Rattle.rational.proofs.Field.{rationals}
@@ -212,7 +212,7 @@ ends_by_sign n d r rows Less l s h = ends_none (Negative (one_ℚ ∷ zeros n))
 ends_by_sign n d r rows Equal l s h =
     ends_flat n d r rows (λ left. squares_ops_from n left) (λ left. curvature_from n left) (λ left. squares_from n left) (first_place r) (h rows s)
 ends_by_sign n d r rows Greater l s h =
-    let v = divided d r in let left = less_products r (divided d r) rows in
+    let left = less_products r (divided d r) rows in
     let k : length (divided d r) ≡ n = length-divided d r ∙ l in
     ends_then (division_ops d r) _ (divided d r) _ (row_answered (divided_in max_part d r))
     (λ v. less_products_in r v rows >>= λ left. squares_from n left >>= λ c. after_square_in d v c) (ends_divided d r)

@@ -1,12 +1,12 @@
 -- The entries of a matrix by its upper half, and of its rows less a product.
-use Rattle.std.specs.Prelude.{◌≡◌, ℕ, zero, suc, ◌+◌, ◌<◌, pos, List, [], ◌∷◌, drop, length, map, Option, Some, None, Bool, true, false, option_map, if◌then◌else◌, All}
+use Rattle.std.specs.Prelude.{◌≡◌, ℕ, zero, suc, ◌+◌, ◌<◌, List, [], ◌∷◌, drop, length, Option, Some, None, Bool, true, false, option_map, if◌then◌else◌, All}
 use Rattle.std.proofs.Common.{refl, sym, ◌∙◌, ap, subst, arith}
 use Rattle.std.proofs.lemmas.List.{length-drop}
 use Rattle.std.proofs.lemmas.List.Elements.{All-head, All-tail}
 use Rattle.algebra.proofs.Polynomial.{minus, ◌⊕◌, ◌⊝◌, ◌⊗◌, ◌≐◌, lit}
 use Rattle.algebra.proofs.Solver.{ring}
 use Rattle.algebra.proofs.Certificate.{prove, scaled, ◌⇐◌}
-use Rattle.rational.specs.Rational.{ℚ, zero_ℚ, whole, neg_ℚ, ◌+ℚ◌, ◌-ℚ◌, ◌*ℚ◌, ◌/ℚ◌, reciprocal}
+use Rattle.rational.specs.Rational.{ℚ, zero_ℚ, neg_ℚ, ◌+ℚ◌, ◌-ℚ◌, ◌*ℚ◌, reciprocal}
 use Rattle.rational.specs.Order.{same_fields, same_fields_lem, differ_of_same_fields}
 use Rattle.rational.specs.Vectors.{add_each, scale}
 use Rattle.rational.proofs.Field.{rationals, mul-reciprocal}
@@ -48,9 +48,10 @@ upper_is_half i zero (row ∷ rows) l h = absurd (omega arith)
 upper_is_half i (suc m) [] l h = absurd (omega arith)
 upper_is_half i (suc m) (row ∷ rows) l h =
     let w : length row ≡ i + suc m = All-head (λ row. length row ≡ i + suc m) row rows h in
-    let e : i + suc m ≡ suc i + m = omega arith in
-    (rw length-drop (omega arith),
-    upper_is_half (suc i) m rows (omega arith) (subst (λ (k : ℕ). All (λ row. length row ≡ k) rows) e (All-tail (λ row. length row ≡ i + suc m) row rows h)))
+    let e : i + suc m ≡ suc i + m = omega arith in (
+      rw length-drop (omega arith),
+      upper_is_half (suc i) m rows (omega arith) (subst (λ (k : ℕ). All (λ row. length row ≡ k) rows) e (All-tail (λ row. length row ≡ i + suc m) row rows h)),
+    )
 
 pub is_half : (q : List (List ℚ)) → IsSymmetric q → IsHalf (length q) (upper_half q)
 is_half q s =

@@ -1,14 +1,14 @@
 -- The form of a matrix by its upper half.
-use Rattle.std.specs.Prelude.{◌≡◌, ℕ, zero, suc, ◌<◌, pos, List, [], ◌∷◌, length, slice_set}
+use Rattle.std.specs.Prelude.{◌≡◌, ℕ, zero, suc, ◌<◌, List, [], ◌∷◌, length, slice_set}
 use Rattle.std.proofs.Common.{refl, sym, ◌∙◌, ap, arith}
-use Rattle.algebra.proofs.Polynomial.{minus, ◌⊕◌, ◌⊝◌, ◌⊗◌, ◌≐◌, lit}
+use Rattle.algebra.proofs.Polynomial.{◌⊕◌, ◌⊝◌, ◌⊗◌, ◌≐◌, lit}
 use Rattle.algebra.proofs.Solver.{ring}
-use Rattle.rational.specs.Rational.{ℚ, zero_ℚ, neg_ℚ, ◌+ℚ◌, ◌-ℚ◌, ◌*ℚ◌}
+use Rattle.rational.specs.Rational.{ℚ, zero_ℚ, ◌+ℚ◌, ◌-ℚ◌, ◌*ℚ◌}
 use Rattle.rational.specs.Vectors.{zeros}
 use Rattle.rational.proofs.Field.{rationals, *ℚ_comm}
 use Rattle.program_law.specs.Vectors.{at, row_at, dot, form}
-use Rattle.certificate_law.proofs.Sums.{along, along_zero, dot_along, form_along, along_equal, along_sum, along_scaled, along_less}
-use Rattle.convexity.specs.Half.{upper_half, IsHalf, half_at, IsSymmetric}
+use Rattle.certificate_law.proofs.Sums.{along, dot_along, form_along, along_equal, along_sum, along_scaled, along_less}
+use Rattle.convexity.specs.Half.{upper_half, IsHalf, half_at}
 use Rattle.convexity.specs.Reduction.{less_products}
 use Rattle.convexity.proofs.Entries.{half-at, half_diagonal, less_at}
 
@@ -29,9 +29,9 @@ pub bordered : (d : ℚ) (r : List ℚ) (rows : List (List ℚ)) (x : ℚ) (z : 
 unfolding half_form along
 bordered d r rows x z =
     let beside : along (λ j. at r j *ℚ x +ℚ along (half_at rows j) z) z ≡ x *ℚ dot r z +ℚ along (λ j. along (half_at rows j) z) z =
-        along_sum (λ j. at r j *ℚ x) (λ j. along (half_at rows j) z) z
-        ∙ ap (λ (t : ℚ). t +ℚ along (λ j. along (half_at rows j) z) z)
-        (along_equal (λ j. at r j *ℚ x) (λ j. x *ℚ at r j) z (λ j. *ℚ_comm (at r j) x) ∙ along_scaled x (at r) z ∙ ap (λ (t : ℚ). x *ℚ t) (sym (dot_along r z))) in
+    along_sum (λ j. at r j *ℚ x) (λ j. along (half_at rows j) z) z
+    ∙ ap (λ (t : ℚ). t +ℚ along (λ j. along (half_at rows j) z) z)
+    (along_equal (λ j. at r j *ℚ x) (λ j. x *ℚ at r j) z (λ j. *ℚ_comm (at r j) x) ∙ along_scaled x (at r) z ∙ ap (λ (t : ℚ). x *ℚ t) (sym (dot_along r z))) in
     ap (λ (t : ℚ). (d *ℚ x +ℚ t) *ℚ x +ℚ along (λ j. at r j *ℚ x +ℚ along (half_at rows j) z) z) (sym (dot_along r z))
     ∙ ap (λ (t : ℚ). (d *ℚ x +ℚ dot r z) *ℚ x +ℚ t) beside
 
@@ -79,10 +79,10 @@ unfolding half_form
 half_form_less n d r v rows z h l s e =
     let b = dot v z in
     let inner : (j : ℕ) → along (half_at (less_products r v rows) j) z ≡ along (half_at rows j) z -ℚ (d *ℚ b) *ℚ at v j = λ j.
-        along_equal (half_at (less_products r v rows) j) (λ k. half_at rows j k -ℚ (d *ℚ at v j) *ℚ at v k) z (λ k. less_at n d r v rows j k h l s e)
-        ∙ along_less (half_at rows j) (λ k. (d *ℚ at v j) *ℚ at v k) z
-        ∙ ap (λ (t : ℚ). along (half_at rows j) z -ℚ t) (along_scaled (d *ℚ at v j) (at v) z ∙ ap (λ (t : ℚ). (d *ℚ at v j) *ℚ t) (sym (dot_along v z)))
-        ∙ ring rationals (along (half_at rows j) z ∷ d ∷ at v j ∷ b ∷ []) (λ a d y b. a ⊝ (d ⊗ y) ⊗ b ≐ a ⊝ (d ⊗ b) ⊗ y) refl in
+    along_equal (half_at (less_products r v rows) j) (λ k. half_at rows j k -ℚ (d *ℚ at v j) *ℚ at v k) z (λ k. less_at n d r v rows j k h l s e)
+    ∙ along_less (half_at rows j) (λ k. (d *ℚ at v j) *ℚ at v k) z
+    ∙ ap (λ (t : ℚ). along (half_at rows j) z -ℚ t) (along_scaled (d *ℚ at v j) (at v) z ∙ ap (λ (t : ℚ). (d *ℚ at v j) *ℚ t) (sym (dot_along v z)))
+    ∙ ring rationals (along (half_at rows j) z ∷ d ∷ at v j ∷ b ∷ []) (λ a d y b. a ⊝ (d ⊗ y) ⊗ b ≐ a ⊝ (d ⊗ b) ⊗ y) refl in
     along_equal (λ j. along (half_at (less_products r v rows) j) z) (λ j. along (half_at rows j) z -ℚ (d *ℚ b) *ℚ at v j) z inner
     ∙ along_less (λ j. along (half_at rows j) z) (λ j. (d *ℚ b) *ℚ at v j) z
     ∙ ap (λ (t : ℚ). along (λ j. along (half_at rows j) z) z -ℚ t) (along_scaled (d *ℚ b) (at v) z ∙ ap (λ (t : ℚ). (d *ℚ b) *ℚ t) (sym (dot_along v z)))

@@ -3,10 +3,10 @@ use Rattle.std.specs.Prelude.{◌≡◌, ◌≢◌, ℕ, zero, suc, ◌+◌, ◌
 use Rattle.std.specs.declared.cmp.Ordering.{Ordering}
 use Rattle.std.specs.declared.cmp.Ordering.TheVariants.{Less, Equal, Greater}
 use Rattle.std.specs.Ordering.{is_eq}
-use Rattle.std.proofs.Common.{refl, sym, ◌∙◌, ap, subst, arith, add-one, append_assoc}
+use Rattle.std.proofs.Common.{refl, sym, ◌∙◌, ap, arith, add-one, append_assoc}
 use Rattle.std.proofs.Math.Seq.{take-suc, drop-cons}
 use Rattle.std.proofs.Math.ListN.{drop_of_length-le}
-use Rattle.std.proofs.lemmas.List.{drop-set, take_more_set, get_or-set_other, get_or-drop, length-append, take_at, drop_at, take_all, length-drop, length-take-le}
+use Rattle.std.proofs.lemmas.List.{drop-set, take_more_set, get_or-set_other, get_or-drop, length-append, take_at, take_all, length-drop, length-take-le}
 use Rattle.rational.specs.Rational.{ℚ, zero_ℚ, one_ℚ, neg_ℚ}
 use Rattle.rational.specs.Order.{rational_cmp, same_fields, same_fields_is, same_fields_self}
 use Rattle.rational.specs.Vectors.{zeros}
@@ -287,7 +287,7 @@ pub freed_more : (j k : ℕ) (v row : List ℚ) (rows new : List (List ℚ)) (on
     → (freed_onto (take (j + (k + 1)) new) (drop (k + 1) (row_at new j)) (drop (k + 1) v) (drop (j + (k + 1)) new)
     ≡ freed_onto (take (j + k) rows) (drop k (row_at rows j)) (drop k v) (drop (j + k) rows)) × (row_at new j ≡ row_at rows j)
 freed_more j k v row rows new one some h l w is e put =
-    let i = j + k in let n : j + (k + 1) ≡ j + k + 1 = omega arith in
+    let n : j + (k + 1) ≡ j + k + 1 = omega arith in
     let ne : j ≢ j + k = omega arith in
     let stays : row_at new j ≡ row_at rows j = ap (λ (r : List (List ℚ)). row_at r j) put ∙ get_or-set_other rows (j + k) j one [] ne in
     let front : take (j + (k + 1)) new ≡ take (j + k) rows ++ one ∷ [] = ap (λ (m : ℕ). take m new) n ∙ ap (take (j + k + 1)) put ∙ take_more_set rows (j + k) one w in
@@ -356,9 +356,9 @@ module _ (j : ℕ) (old : List (List ℚ)) (h : j < length old) (some : 0 < leng
   freed_refused v r e f =
       let found = answer_divided v e in let w = found.0 in
       let g : less_products_in (drop 1 (row_at old j)) w (drop (j + 1) old) ≡ Err r =
-          rows_before_err (take (j + 1) old) r (less_products_in (drop 1 (row_at old j)) w (drop (j + 1) old))
-          (sym (freed_is (take (j + 1) old) (drop 1 (row_at old j)) w (drop (j + 1) old))
-          ∙ ap (λ (u : List ℚ). freed_onto (take (j + 1) old) (drop 1 (row_at old j)) (drop 1 u) (drop (j + 1) old)) (sym found.1) ∙ f) in
+      rows_before_err (take (j + 1) old) r (less_products_in (drop 1 (row_at old j)) w (drop (j + 1) old))
+      (sym (freed_is (take (j + 1) old) (drop 1 (row_at old j)) w (drop (j + 1) old))
+      ∙ ap (λ (u : List ℚ). freed_onto (take (j + 1) old) (drop 1 (row_at old j)) (drop 1 u) (drop (j + 1) old)) (sym found.1) ∙ f) in
       found.2
       ∙ ap (λ (a : Result (List (List ℚ)) Refused). after_rows (take j old) (a >>= λ left. squares_from later left >>= λ c. after_square_in diagonal w c)) g
       ∙ after_refused (take j old) r
@@ -399,8 +399,8 @@ module _ (j : ℕ) (old : List (List ℚ)) (h : j < length old) (some : 0 < leng
   step_square v freed new e f l put =
       let found = answer_divided v e in let w = found.0 in
       let rows = rows_before_ok (take (j + 1) old) freed (less_products_in (drop 1 (row_at old j)) w (drop (j + 1) old))
-          (sym (freed_is (take (j + 1) old) (drop 1 (row_at old j)) w (drop (j + 1) old))
-          ∙ ap (λ (u : List ℚ). freed_onto (take (j + 1) old) (drop 1 (row_at old j)) (drop 1 u) (drop (j + 1) old)) (sym found.1) ∙ f) in
+      (sym (freed_is (take (j + 1) old) (drop 1 (row_at old j)) w (drop (j + 1) old))
+      ∙ ap (λ (u : List ℚ). freed_onto (take (j + 1) old) (drop 1 (row_at old j)) (drop 1 u) (drop (j + 1) old)) (sym found.1) ∙ f) in
       let left = rows.0 in
       let front : length (take (j + 1) old) ≡ j + 1 = length-take-le (j + 1) old (omega arith) in
       let count : length left ≡ later = omega (arith, l, front, ap (λ (r : List (List ℚ)). length r) rows.2, length-append (take (j + 1) old) left) in
@@ -439,7 +439,7 @@ carried_err row z p r t e h = carried_is row z p t e ∙ ap (λ (s : Result ℚ 
 pub carried_more : (i : ℕ) (rows : List (List ℚ)) (z : List ℚ) (x : ℚ) → 0 < i → i ≤ length rows → i ≤ length z
     → after_row (row_at rows (i - 1)) (Negative (drop i z)) ≡ Ok (Negative (x ∷ drop i z)) → answer_found (i - 1) rows (slice_set z (i - 1) x) ≡ answer_found i rows z
 carried_more i rows z x some h l e =
-    let j = i - 1 in let same : i - 1 + 1 ≡ i = omega arith in
+    let same : i - 1 + 1 ≡ i = omega arith in
     one (i - 1) (omega arith) (omega arith) (rw same e) ∙ ap (λ (k : ℕ). answer_found k rows z) same
   where
     one : (j : ℕ) → j < length rows → j < length z → after_row (row_at rows j) (Negative (drop (j + 1) z)) ≡ Ok (Negative (x ∷ drop (j + 1) z))

@@ -1,5 +1,5 @@
 -- An upper half in one list.
-use Rattle.std.proofs.Common.{◌≡◌, ℕ, Vec, zero, suc, ◌+◌, ◌-◌, ◌*◌, ◌/◌, ◌<◌, ◌≤◌, List, [], ◌∷◌, ◌++◌, length, take, drop, get_or, slice_get, Some, sym, ap, ◌∙◌, refl, arith, append_assoc, subst}
+use Rattle.std.proofs.Common.{◌≡◌, ℕ, Vec, zero, suc, ◌+◌, ◌-◌, ◌*◌, ◌/◌, ◌<◌, ◌≤◌, List, [], ◌∷◌, ◌++◌, length, take, drop, slice_get, Some, sym, ap, ◌∙◌, refl, arith, append_assoc, subst}
 use Rattle.std.proofs.Math.Seq.{take-add}
 use Rattle.std.proofs.Math.ListN.{set}
 use borrow.Rule.Slice.PartMut.{put_mid}
@@ -103,7 +103,7 @@ row_width n xs ys rows j a b e l h s at_a at_b =
     let there : j < n = omega (arith, h, count_here n xs rows e) in
     let m : (start_of n j + (n - j)) - start_of n j ≡ n - j = omega arith in
     let t : length (take (n - j) (drop (start_of n j) xs)) ≡ n - j =
-        length-take-le (n - j) (drop (start_of n j) xs) (rw length-drop (omega (arith, start_within n j there))) in
+    length-take-le (n - j) (drop (start_of n j) xs) (rw length-drop (omega (arith, start_within n j there))) in
     rw (at_a, at_b, m, s) (omega (arith, t, count_here n xs rows e))
 
 put_mid_length : (a k : ℕ) (xs ys : List ℚ) → a + k ≤ length xs → length ys ≡ k → length (put_mid a k xs ys) ≡ length xs

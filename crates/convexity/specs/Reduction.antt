@@ -1,14 +1,14 @@
 -- The squares of a symmetric matrix, or a vector with a negative form, over exact numbers without limit.
 --
 -- R starts as the matrix. For each place j in order, with d the entry of R at j and j:
--- - d below 0: u has 1 at j, and has a negative form.
--- - d = 0: where the row of j has no entry after j, go on. Else k is the first place after j with an entry, u has 1 at j and t at k,
---   and has a negative form.
--- - d above 0: a square of weight d, with 1 at j and the row's entries divided by d after it, is taken from R.
--- A u that is found is carried back over the places before it, the last first: its entry at a place with a square is less the product
--- of the square's later entries with its own later entries, so that the square is 0 at it; else it is 0.
+-- - d below 0: the vector with 1 at j has a negative form.
+-- - d = 0: where the row of j is 0 after j, go on. Else k is the first place after j where it is not 0, and the vector with 1 at j and t
+--   at k has a negative form.
+-- - d above 0: the square of weight d, with 1 at j and after it the entries of the row divided by d, is taken from R.
+-- A vector that is found is carried back over the places before it, the last first: at a place with a square it gets the entry that
+-- makes the square 0 at it, and at the others 0.
 --
--- R is kept as its upper half without the places that are done: the row of j is d and r, and then come the rows after it.
+-- R is kept as its upper half without the places that are done: d and r are the row of j, and then come the rows after it.
 use Rattle.std.specs.Prelude.{ℕ, zero, suc, List, [], ◌∷◌, map, length, Option, Some, None, option_map, if◌then◌else◌, slice_set}
 use Rattle.std.specs.declared.cmp.Ordering.{Ordering}
 use Rattle.std.specs.declared.cmp.Ordering.TheVariants.{Less, Equal, Greater}
@@ -23,12 +23,12 @@ use Rattle.convexity.specs.declared.Curvature.{Curvature}
 use Rattle.convexity.specs.declared.Curvature.TheVariants.{Squares, Negative}
 use Rattle.convexity.specs.Half.{upper_half}
 
--- the first place with an entry that is not 0
+-- the first place where a row is not 0
 abbrev pub first_place : List ℚ → Option ℕ
 first_place [] = None
 first_place (x ∷ r) = if same_fields x zero_ℚ then option_map suc (first_place r) else Some 0
 
--- t, where R has b at j and k, and c at k and k
+-- t, where R has b at j and k, and c at k and k: the form at 1 and t is 2 b t + c t^2
 abbrev pub tilt : ℚ → ℚ → ℚ
 tilt b c = if is_positive c then neg_ℚ (b /ℚ c) else neg_ℚ (one_ℚ /ℚ b)
 

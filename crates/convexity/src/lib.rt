@@ -12,12 +12,11 @@ mod laws;
 mod reduction;
 mod rows;
 
-pub use laws::{reduction_ends_with_its_first_refusal, reduction_tells_the_curvature};
-
 use crate::half::Half;
 use crate::reduction::{carry_back, reduce, squares_of};
 use exact_matrix::Stop;
 use frac_core::{Frac, Memory, Vector};
+pub use laws::{reduction_ends_with_its_first_refusal, reduction_tells_the_curvature};
 use program_law::Squares;
 use program_model::Program;
 use std::alloc::Global;

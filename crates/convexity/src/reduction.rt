@@ -118,12 +118,7 @@ fn take_square(half: &mut Half, j: usize, room: &mut [Frac]) -> Result<(), Refus
 }
 
 // The place at `j`. Whether a vector is found, whose entries from `j` on are then in `z`.
-fn step(
-    half: &mut Half,
-    j: usize,
-    z: &mut Vector<Frac>,
-    room: &mut [Frac],
-) -> Result<bool, Refused>
+fn step(half: &mut Half, j: usize, z: &mut Vector<Frac>, room: &mut [Frac]) -> Result<bool, Refused>
     requires place { j < length half.old }
     requires zeros { z.old ≡ replicate (length half.old) zero_ℚ }
     requires room { length room.old ≡ length half.old }

@@ -1,4 +1,3 @@
-use Rattle.std.proofs.Common.{sym, ap, subst, ◌∙◌}
 use Rattle.std.proofs.lemmas.Result.{err_from_is_err_and}
 use Rattle.convexity.proofs.Answered.{answer_negative, answer_carried_past, answer_squares, answer_past}
 use Rattle.convexity.proofs.calculated.Goals as goal

@@ -1,10 +1,7 @@
-use Rattle.std.specs.Prelude.{◌≡◌, List, ◌∷◌, Result, Ok, false, drop}
+use Rattle.std.specs.Prelude.{List, ◌∷◌, Ok, false, drop}
 use Rattle.std.proofs.Common.{ap, sym, ◌∙◌}
 use Rattle.std.proofs.lemmas.Result.{err_from_is_err_and}
-use Rattle.rational.specs.Rational.{ℚ, zero_ℚ, neg_ℚ}
-use Rattle.rational.specs.Order.{same_fields}
-use Rattle.program_law.specs.Vectors.{at}
-use Rattle.convexity.specs.declared.Curvature.{Curvature}
+use Rattle.rational.specs.Rational.{ℚ, zero_ℚ}
 use Rattle.convexity.specs.declared.Curvature.TheVariants.{Negative}
 use Rattle.convexity.specs.Onto.{dot_onto}
 use Rattle.convexity.proofs.Steps.{first_test, rest_is, carried_ok, carried_err}

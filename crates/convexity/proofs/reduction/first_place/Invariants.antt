@@ -1,4 +1,4 @@
-use Rattle.std.specs.Prelude.{ℕ, Option, option_map}
+use Rattle.std.specs.Prelude.{ℕ, option_map}
 use Rattle.std.proofs.Common.{◌≡◌, ◌+◌, drop}
 use Rattle.convexity.specs.Reduction.{first_place}
 use Rattle.convexity.proofs.reduction.first_place.Given as goal

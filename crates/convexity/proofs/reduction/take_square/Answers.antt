@@ -1,11 +1,10 @@
-use Rattle.std.specs.Prelude.{◌≡◌, ◌<◌, List, length}
-use Rattle.std.specs.declared.cmp.Ordering.TheVariants.{Greater}
-use Rattle.std.proofs.Common.{ap, sym, ◌∙◌, arith}
+use Rattle.std.specs.Prelude.{◌<◌, List, length}
+use Rattle.std.proofs.Common.{ap, ◌∙◌, arith}
 use Rattle.std.proofs.lemmas.Result.{err_from_is_err_and}
 use Rattle.rational.specs.Rational.{ℚ, zero_ℚ}
 use Rattle.rational.specs.Order.{rational_cmp}
 use Rattle.program_law.specs.Vectors.{at, row_at}
-use Rattle.convexity.proofs.Steps.{divisor_is, half_width, divided_refused, freed_refused, step_square}
+use Rattle.convexity.proofs.Steps.{divisor_is, divided_refused, freed_refused, step_square}
 use Rattle.convexity.proofs.reduction.take_square.Goals as goal
 
 pub divide_onto-requires-clause-divisor : goal.divide_onto-requires-clause-divisor

@@ -10,9 +10,12 @@ part_of-start-requires-clause-place c = place_is c.self.inside.size c.self.insid
 
 pub copy_from_slice-requires : goal.copy_from_slice-requires
 copy_from_slice-requires c =
-    omega (arith, c.requires.width,
-    row_width c.self.inside.size c.self.inside.entries.items c.deref_mut.result.now c.args.self.now c.args.j c.part_of-start.result.0 c.part_of-start.result.1
-    c.self.view_is c.self.invariant.1 c.requires.row c.deref_mut.ensures.value c.part_of-start.ensures.start c.part_of-start.ensures.end)
+    omega (
+      arith,
+      c.requires.width,
+      row_width c.self.inside.size c.self.inside.entries.items c.deref_mut.result.now c.args.self.now c.args.j c.part_of-start.result.0 c.part_of-start.result.1
+          c.self.view_is c.self.invariant.1 c.requires.row c.deref_mut.ensures.value c.part_of-start.ensures.start c.part_of-start.ensures.end,
+    )
 
 pub returns : goal.returns
 returns c =
