@@ -1,0 +1,9 @@
+pub mod Entries
+pub mod Forms
+pub mod Curved
+pub mod Ended
+pub mod Onto
+pub mod Steps
+pub mod Answered
+pub mod Triangles
+pub mod WorkedReduction
