@@ -1,3 +1,4 @@
 pub mod DigitLemmas
 pub mod PartLemmas
 pub mod LineLemmas
+pub mod Worked
