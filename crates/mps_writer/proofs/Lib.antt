@@ -2,3 +2,4 @@ pub mod DigitLemmas
 pub mod PartLemmas
 pub mod LineLemmas
 pub mod Worked
+pub mod Numerals

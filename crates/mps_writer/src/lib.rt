@@ -3,6 +3,7 @@
 
 mod bounds;
 mod columns;
+mod laws;
 mod lines;
 mod numbers;
 mod pairs;
@@ -11,6 +12,7 @@ mod rows;
 mod sides;
 mod writing;
 
+pub use laws::numbers_are_read_back;
 pub use writing::write;
 
 #[cfg(test)]
