@@ -3,3 +3,4 @@ pub mod PartLemmas
 pub mod LineLemmas
 pub mod Worked
 pub mod Numerals
+pub mod Fields

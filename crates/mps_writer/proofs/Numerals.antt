@@ -28,9 +28,9 @@ use Rattle.mps_tokens.proofs.DecimalValues.{short_value, zero_value}
 use Rattle.mps_tokens.proofs.PowerValues.{whole_fits}
 
 -- digits, at least one
-record IsDigits (ds : List ℕ) : Type 0 where
-  some : 0 < length ds
-  digits : AllDigits 10 ds
+pub record IsDigits (ds : List ℕ) : Type 0 where
+  pub some : 0 < length ds
+  pub digits : AllDigits 10 ds
 
 digit : (c : ℕ) → IsInRange 48 57 c → is_ascii_digit c ≡ true
 digit c h = grind (arith, nat_tests)
@@ -173,7 +173,7 @@ slashed_number bytes top bottom negative p q n r t b tv bv ps qs some =
 wide : (n : ℕ) → n ≤ max_part → n < 10 ^ 64
 wide n h = omega arith
 
-written : (n : ℕ) → n ≤ max_part → IsDigits (decimal n) × (digits_value 10 (decimal n) ≡ n)
+pub written : (n : ℕ) → n ≤ max_part → IsDigits (decimal n) × (digits_value 10 (decimal n) ≡ n)
 written n h = let d = decimal_is_IsNumeral_wide n (wide n h) in (record { some = d.0.0; digits = d.0.1 }, d.1)
 
 -- a whole number, and a fraction with a denominator
