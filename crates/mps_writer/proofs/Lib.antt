@@ -4,3 +4,5 @@ pub mod LineLemmas
 pub mod Worked
 pub mod Numerals
 pub mod Fields
+pub mod Erased
+pub mod Runs
