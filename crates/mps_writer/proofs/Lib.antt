@@ -6,3 +6,5 @@ pub mod Numerals
 pub mod Fields
 pub mod Erased
 pub mod Runs
+pub mod Lookups
+pub mod Names
