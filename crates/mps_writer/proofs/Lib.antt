@@ -8,3 +8,6 @@ pub mod Erased
 pub mod Runs
 pub mod Lookups
 pub mod Names
+pub mod Stages
+pub mod RowsBack
+pub mod EntriesBack

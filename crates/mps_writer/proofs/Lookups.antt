@@ -92,6 +92,9 @@ known-append (x ∷ xs) ys name =
     ∙ sym (or_assoc (bytes_eq name x) (is_some (place_of xs name)) (is_some (place_of ys name)) ∙ refl)
     ∙ ap (λ (b : Bool). b || is_some (place_of ys name)) (sym (some_first (bytes_eq name x) (place_of xs name)))
 
+pub known_cons : (x : List ℕ) (xs : List (List ℕ)) (name : List ℕ) → is_some (place_of (x ∷ xs) name) ≡ (bytes_eq name x || is_some (place_of xs name))
+known_cons x xs name = some_first (bytes_eq name x) (place_of xs name)
+
 known_one : (f name : List ℕ) → is_some (place_of (f ∷ []) name) ≡ bytes_eq name f
 known_one f name = some_first (bytes_eq name f) None ∙ or_false (bytes_eq name f)
 
@@ -145,7 +148,7 @@ value_nowhere zero f column row h = refl
 value_nowhere (suc n) f column row h =
     value-append (f n) (each_back n f) column row ∙ rw (h n (omega arith), value_nowhere n f column row (λ i lt. h i (omega (arith, lt)))) refl
 
-or_none : {A : Type 0} (o : Option A) → or_other o None ≡ o
+pub or_none : {A : Type 0} (o : Option A) → or_other o None ≡ o
 or_none None = refl
 or_none (Some x) = refl
 
