@@ -11,3 +11,4 @@ pub mod Names
 pub mod Stages
 pub mod RowsBack
 pub mod EntriesBack
+pub mod ColumnsBack
