@@ -12,3 +12,4 @@ pub mod Stages
 pub mod RowsBack
 pub mod EntriesBack
 pub mod ColumnsBack
+pub mod SectionsBack

@@ -24,7 +24,7 @@ section_append : (word : List ℕ) (xs ys : List (List ℕ)) → section word (x
 section_append word [] ys = refl
 section_append word (x ∷ xs) ys = refl
 
-has_append : (xs ys : List (List ℕ)) → has_lines (xs ++ ys) ≡ (has_lines xs || has_lines ys)
+pub has_append : (xs ys : List (List ℕ)) → has_lines (xs ++ ys) ≡ (has_lines xs || has_lines ys)
 has_append [] ys = refl
 has_append (x ∷ xs) ys = refl
 
