@@ -13,3 +13,4 @@ pub mod RowsBack
 pub mod EntriesBack
 pub mod ColumnsBack
 pub mod SectionsBack
+pub mod SidesBack
