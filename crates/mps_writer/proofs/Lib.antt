@@ -14,3 +14,4 @@ pub mod EntriesBack
 pub mod ColumnsBack
 pub mod SectionsBack
 pub mod SidesBack
+pub mod RangesBack

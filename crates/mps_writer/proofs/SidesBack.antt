@@ -40,32 +40,32 @@ use Rattle.mps_writer.proofs.EntriesBack.{entries_bare, append_bare, each_bare, 
 use Rattle.mps_writer.proofs.SectionsBack.{section_read, first_part, second_part, nothing_each, nothing_of_zero}
 use Rattle.mps_writer.proofs.Stages.{in_columns, entries_told, with_section, set_if, side_told, constant_told, sides_told, range_told, ranges_told, behind_columns, first_sections}
 
-five_none : (a b c d e : Bool) → a ≡ false → b ≡ false → c ≡ false → d ≡ false → e ≡ false
+pub five_none : (a b c d e : Bool) → a ≡ false → b ≡ false → c ≡ false → d ≡ false → e ≡ false
     → first_of ((a, kinds.NameLong) ∷ (b, kinds.NameUnknown) ∷ (c, kinds.NumberText) ∷ (d, kinds.NumberPast) ∷ (e, kinds.EntryTwice) ∷ []) ≡ None
 five_none a b c d e f g h i j = rw (f, g, h, i, j) refl
 
-and_false : (a b : Bool) → b ≡ false → (a && b) ≡ false
+pub and_false : (a b : Bool) → b ≡ false → (a && b) ≡ false
 and_false true b e = e
 and_false false b e = refl
 
 -- a number of a row, which is new
-record IsNextSide (told : Told) (ts : List Telling) (name : List ℕ) (q : ℚ) : Type 0 where
-  name_word : IsWord name
-  short_name : is_long name ≡ false
-  known : is_some (place_of (names_of told.rows) name) ≡ true
-  small : Fits max_part q
-  new : is_told ts [] name ≡ false
+pub record IsNextSide (told : Told) (ts : List Telling) (name : List ℕ) (q : ℚ) : Type 0 where
+  pub name_word : IsWord name
+  pub short_name : is_long name ≡ false
+  pub known : is_some (place_of (names_of told.rows) name) ≡ true
+  pub small : Fits max_part q
+  pub new : is_told ts [] name ≡ false
 
-side_none : (told : Told) (set : Option (List ℕ)) (ts : List Telling) (head name : List ℕ) (q : ℚ) → is_long head ≡ false → IsNextSide told ts name q → first_of (side_tests told set ts (Some (head, (name, text_of q) ∷ []))) ≡ None
+pub side_none : (told : Told) (set : Option (List ℕ)) (ts : List Telling) (head name : List ℕ) (q : ℚ) → is_long head ≡ false → IsNextSide told ts name q → first_of (side_tests told set ts (Some (head, (name, text_of q) ∷ []))) ≡ None
 side_none told set ts head name q short h =
     five_none _ _ _ _ _ (long_none _ _ short h.short_name) (one_none _ (is_known _ h.known)) (one_none _ (no_text _ q (number_back q h.small))) (one_none _ (no_past _ q (number_back q h.small)))
     (and_false _ _ (not_twice (counts_row told name) (is_told ts [] name) h.new))
 
-used_set : (a : Bool) (w : List ℕ) → is_used (set_if a w) w ≡ true
+pub used_set : (a : Bool) (w : List ℕ) → is_used (set_if a w) w ≡ true
 used_set true w = same_bytes w
 used_set false w = refl
 
-named_set : (a : Bool) (w : List ℕ) → first_named (set_if a w) (Some w) ≡ set_if true w
+pub named_set : (a : Bool) (w : List ℕ) → first_named (set_if a w) (Some w) ≡ set_if true w
 named_set true w = refl
 named_set false w = refl
 
@@ -73,7 +73,7 @@ used_sides : (u : Bool) (pairs : List Telling) (ts : List Telling) → u ≡ tru
 used_sides u pairs ts e = rw e refl
 
 -- what a line of a set tells: the number, with its set as the used one
-set_told : (a : Bool) (w name : List ℕ) (q : ℚ) (ts : List Telling) → Fits max_part q → map bare ts ≡ ts → map bare (with_sides (set_if a w) (0 + 1) (Some (w, (name, text_of q) ∷ [])) ts) ≡ telling [] name q ∷ ts
+pub set_told : (a : Bool) (w name : List ℕ) (q : ℚ) (ts : List Telling) → Fits max_part q → map bare ts ≡ ts → map bare (with_sides (set_if a w) (0 + 1) (Some (w, (name, text_of q) ∷ [])) ts) ≡ telling [] name q ∷ ts
 set_told a w name q ts small plain =
     ap (λ (us : List Telling). map bare us) (used_sides (is_used (set_if a w) w) (record { line = 0 + 1; column = []; row = name; value = value_or_zero (number_of (text_of q)) } ∷ ts) ts (used_set a w))
     ∙ ap (λ (v : ℚ). telling [] name v ∷ map bare ts) (ap value_or_zero (number_back q small))
@@ -94,11 +94,11 @@ module _ (p : Program) where
        ∙ ap (λ (s : Option (List ℕ)). record (rhs_stage a (telling [] name q ∷ ts)) { side_set = s; entries = map bare (entries_told p (length p.columns)) }) (named_set a (codes "RHS"))
        ∙ ap (λ (us : List Telling). record (rhs_stage true (telling [] name q ∷ ts)) { entries = us }) (entries_bare p (length p.columns)))
 
-or_false : (a : Bool) → (a || false) ≡ a
+pub or_false : (a : Bool) → (a || false) ≡ a
 or_false true = refl
 or_false false = refl
 
-or_true : (a : Bool) → (a || true) ≡ true
+pub or_true : (a : Bool) → (a || true) ≡ true
 or_true true = refl
 or_true false = refl
 
@@ -168,7 +168,7 @@ module _ (p : Program) (good : IsProgram p) (small : HasSmallNumbers p) where
       lead_to (rhs_stage p a ts) (rhs_stage p true (telling [] name q ∷ ts)) (rhs_stage p (a || true) (telling [] name q ∷ ts)) (number_line (codes "RHS" ∷ name ∷ []) q ∷ [])
       (ap (λ (c : Bool). rhs_stage p c (telling [] name q ∷ ts)) (sym (or_true a))) (side_read p a ts name q plain h)
 
-  sides_bare : (n : ℕ) → map bare (sides_told p n) ≡ sides_told p n
+  pub sides_bare : (n : ℕ) → map bare (sides_told p n) ≡ sides_told p n
   sides_bare n =
       append_bare (each_back n (side_told p)) (constant_told p)
       (each_bare n (side_told p) (λ i. unless_zero_bare [] (row_name p i) (right_side (sides_at p i).low (sides_at p i).high))) (unless_zero_bare [] p.objective (neg_ℚ p.constant))
