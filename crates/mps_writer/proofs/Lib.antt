@@ -15,3 +15,4 @@ pub mod ColumnsBack
 pub mod SectionsBack
 pub mod SidesBack
 pub mod RangesBack
+pub mod BoundsBack
