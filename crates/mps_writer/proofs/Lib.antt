@@ -16,3 +16,4 @@ pub mod SectionsBack
 pub mod SidesBack
 pub mod RangesBack
 pub mod BoundsBack
+pub mod PairsBack
