@@ -289,7 +289,7 @@ module _ (p : Program) (good : IsProgram p) (small : HasSmallNumbers p) (a : Boo
       (ap (λ (c : Bool). stage c (bounds_told p (suc j))) (sym (has_append (bound_lines_to j) (bound_lines (column_name p j) (bounds_at p j).low (bounds_at p j).high))))
       (bounds_read_by j lt (has_lines (bound_lines_to j)) (bounds_told p j) (bounds_at p j).low (bounds_at p j).high (small.bounds j).low (small.bounds j).high)
 
-  pub bounds_done : Bool → List BoundTelling → Told
+  abbrev pub bounds_done : Bool → List BoundTelling → Told
   bounds_done c ts = behind_columns p (with_section c sections.Bounds (with_section b sections.Ranges (with_section a sections.Rhs first_sections))) a sides b ranges c ts []
 
   closed_bounds : (c : Bool) (ts : List BoundTelling) → c ≡ true → stage c ts ≡ bounds_done c ts

@@ -117,3 +117,103 @@ module _ (p : Program) (good : IsProgram p) where
             (ap (λ (o : Option ℚ). unwrap_or o zero_ℚ) (or_same (value_at (pairs_told p (length p.columns)) (column_name p j) (column_name p j))) ∙ upper_pair j j (omega arith) jt)
         ]
       ]
+
+-- no lines, no entries
+pub no_pairs_told : (p : Program) → each (length p.columns) (row_pair_lines p) ≡ [] → pairs_told p (length p.columns) ≡ []
+no_pairs_told p e =
+    nothing_each (length p.columns) (row_pair_lines p) (λ j. row_pairs_told p j (length p.columns - j))
+    (λ j none. nothing_each (length p.columns - j) (λ d. pair_lines p j (j + d)) (λ d. pair_told p j (j + d)) (λ d none. nothing_of_zero (column_name p j ∷ column_name p (j + d) ∷ []) (column_name p j) (column_name p (j + d)) (at (row_at p.pairs j) (j + d)) none) none)
+    e
+
+-- ---- the lines
+
+either_none : (a b : Bool) → a ≡ false → b ≡ false → (a || (b || false)) ≡ false
+either_none a b e f = rw (e, f) refl
+
+neither_twice : (a b : Bool) → a ≡ false → b ≡ false → ((true && ((a || b) || false)) || false) ≡ false
+neither_twice a b e f = rw (e, f) refl
+
+module _ (p : Program) (good : IsProgram p) (small : HasSmallNumbers p) (a : Bool) (sides : List Telling) (plain_sides : map bare sides ≡ sides) (b : Bool) (ranges : List Telling) (plain_ranges : map bare ranges ≡ ranges) (c : Bool) (bounds : List BoundTelling) where
+  stage : List Telling → Told
+  stage ts = behind_columns p (sections.QuadObj ∷ with_section c sections.Bounds (with_section b sections.Ranges (with_section a sections.Rhs first_sections))) a sides b ranges c bounds ts
+
+  plain_stage : (ts : List Telling) → record (stage ts) { entries = map bare (entries_told p (length p.columns)); sides = map bare sides; ranges = map bare ranges } ≡ stage ts
+  unfolding stage
+  plain_stage ts =
+      ap (λ (es : List Telling). record (stage ts) { entries = es; sides = map bare sides; ranges = map bare ranges }) (entries_bare p (length p.columns))
+      ∙ ap (λ (us : List Telling). record (stage ts) { sides = us; ranges = map bare ranges }) plain_sides
+      ∙ ap (λ (us : List Telling). record (stage ts) { ranges = us }) plain_ranges
+
+  -- what is told before a pair's line
+  told_before : ℕ → ℕ → List Telling
+  told_before j d = row_pairs_told p j d ++ pairs_told p j
+
+  pairs_bare : (n : ℕ) → map bare (pairs_told p n) ≡ pairs_told p n
+  pairs_bare n = each_bare n (λ j. row_pairs_told p j (length p.columns - j)) (λ j. each_bare (length p.columns - j) (λ d. pair_told p j (j + d)) (λ d. unless_zero_bare (column_name p j) (column_name p (j + d)) (at (row_at p.pairs j) (j + d))))
+
+  before_bare : (j d : ℕ) → map bare (told_before j d) ≡ told_before j d
+  unfolding told_before
+  before_bare j d = append_bare (row_pairs_told p j d) (pairs_told p j) (each_bare d (λ e. pair_told p j (j + e)) (λ e. unless_zero_bare (column_name p j) (column_name p (j + e)) (at (row_at p.pairs j) (j + e)))) (pairs_bare j)
+
+  pair_read : (j d : ℕ) → j + d < length p.columns → (zero_or_not : Bool)
+      → Lead (stage (told_before j d)) (if zero_or_not then [] else number_line (column_name p j ∷ column_name p (j + d) ∷ []) (at (row_at p.pairs j) (j + d)) ∷ [])
+        (stage ((if zero_or_not then [] else telling (column_name p j) (column_name p (j + d)) (at (row_at p.pairs j) (j + d)) ∷ []) ++ told_before j d))
+  unfolding stage told_before
+  pair_read j d lt true = refl
+  pair_read j d lt false =
+      let jt : j < length p.columns = omega (arith, lt) in
+      let read = number_back (at (row_at p.pairs j) (j + d)) (small.pairs j (j + d)) in
+      let none : first_of (data_tests (stage (told_before j d)) sections.QuadObj (column_name p j ∷ column_name p (j + d) ∷ text_of (at (row_at p.pairs j) (j + d)) ∷ [])) ≡ None =
+        five_none _ _ _ _ _ (long_none _ _ (column_short p good j jt) (column_short p good (j + d) lt))
+        (either_none _ _ (is_known _ (known_column p good small (length p.columns) j jt)) (is_known _ (known_column p good small (length p.columns) (j + d) lt)))
+        (one_none _ (no_text _ (at (row_at p.pairs j) (j + d)) read)) (one_none _ (no_past _ (at (row_at p.pairs j) (j + d)) read))
+        (neither_twice _ _ (none_told (told_before j d) (column_name p j) (column_name p (j + d)) (before_pair p good j d lt)) (none_told (told_before j d) (column_name p (j + d)) (column_name p j) (before_turned p good j d lt))) in
+      let t = takes_data (stage (told_before j d)) sections.QuadObj (with_section c sections.Bounds (with_section b sections.Ranges (with_section a sections.Rhs first_sections)))
+              (column_name p j) (column_name p (j + d) ∷ text_of (at (row_at p.pairs j) (j + d)) ∷ []) refl (column_word p good j jt, (column_word p good (j + d) lt, (number_word (at (row_at p.pairs j) (j + d)) (small.pairs j (j + d)), tt))) none in
+      (t.0,
+       t.1
+       ∙ plain_stage (telling (column_name p j) (column_name p (j + d)) (value_or_zero (number_of (text_of (at (row_at p.pairs j) (j + d))))) ∷ map bare (told_before j d))
+       ∙ ap (λ (v : ℚ). stage (telling (column_name p j) (column_name p (j + d)) v ∷ map bare (told_before j d))) (ap value_or_zero read)
+       ∙ ap (λ (us : List Telling). stage (telling (column_name p j) (column_name p (j + d)) (at (row_at p.pairs j) (j + d)) ∷ us)) (before_bare j d))
+
+  row_pairs_read : (j : ℕ) → j < length p.columns → Lead (stage (pairs_told p j)) (row_pair_lines p j) (stage (pairs_told p (suc j)))
+  unfolding told_before
+  row_pairs_read j jt =
+      lead_each (length p.columns - j) (λ d. pair_lines p j (j + d)) (λ d. stage (told_before j d))
+      (λ d within. lead_to _ _ _ (pair_lines p j (j + d)) (ap stage (sym (append_assoc (pair_told p j (j + d)) (row_pairs_told p j d) (pairs_told p j))))
+        (pair_read j d (omega (arith, within)) (is_zero (at (row_at p.pairs j) (j + d)))))
+
+  abbrev pub pairs_done : Bool → List Telling → Told
+  pairs_done d ts = behind_columns p (with_section d sections.QuadObj (with_section c sections.Bounds (with_section b sections.Ranges (with_section a sections.Rhs first_sections)))) a sides b ranges c bounds ts
+
+  closed_pairs : (d : Bool) (ts : List Telling) → d ≡ true → stage ts ≡ pairs_done d ts
+  unfolding stage pairs_done
+  closed_pairs true ts e = refl
+  closed_pairs false ts e = absurd cc
+
+  header_clean : (d e f : Bool) → first_of (header_tests (behind_columns p (with_section f sections.Bounds (with_section e sections.Ranges (with_section d sections.Rhs first_sections))) a sides b ranges c bounds []) (Some sections.QuadObj)) ≡ None
+  header_clean true true true = refl
+  header_clean true true false = refl
+  header_clean true false true = refl
+  header_clean true false false = refl
+  header_clean false true true = refl
+  header_clean false true false = refl
+  header_clean false false true = refl
+  header_clean false false false = refl
+
+  pairs_header : Lead (behind_columns p (with_section c sections.Bounds (with_section b sections.Ranges (with_section a sections.Rhs first_sections))) a sides b ranges c bounds []) (codes "QUADOBJ" ∷ []) (stage [])
+  unfolding stage
+  pairs_header =
+      let t = takes_header (behind_columns p (with_section c sections.Bounds (with_section b sections.Ranges (with_section a sections.Rhs first_sections))) a sides b ranges c bounds []) (codes "QUADOBJ") sections.QuadObj refl refl refl refl refl refl (header_clean a b c) refl in
+      (t.0, t.1 ∙ plain_stage [])
+
+  -- the section
+  pub pairs_read : Lead (behind_columns p (with_section c sections.Bounds (with_section b sections.Ranges (with_section a sections.Rhs first_sections))) a sides b ranges c bounds []) (pairs_lines p)
+      (pairs_done (has_lines (each (length p.columns) (row_pair_lines p))) (pairs_told p (length p.columns)))
+  unfolding pairs_done
+  pairs_read =
+      section_read (codes "QUADOBJ") (each (length p.columns) (row_pair_lines p)) _ (stage []) (stage (pairs_told p (length p.columns))) _
+      pairs_header
+      (lead_each (length p.columns) (row_pair_lines p) (λ j. stage (pairs_told p j)) row_pairs_read)
+      (λ none. ap (λ (d : Bool). pairs_done d []) (sym (ap has_lines none)) ∙ ap (λ (ts : List Telling). pairs_done (has_lines (each (length p.columns) (row_pair_lines p))) ts) (sym (no_pairs_told p none)))
+      (λ some. closed_pairs (has_lines (each (length p.columns) (row_pair_lines p))) (pairs_told p (length p.columns)) some)

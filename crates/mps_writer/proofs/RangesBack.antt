@@ -127,7 +127,7 @@ module _ (p : Program) (good : IsProgram p) (small : HasSmallNumbers p) where
         (range_chosen (has_lines (range_lines_to i)) (ranges_told p i) (row_name p i) (width (sides_at p i).low (sides_at p i).high) (ranges_bare i)
           (λ q is. record { name_word = row_word p good i lt; short_name = row_short p good i lt; known = row_known p good small i lt; small = some_width _ q is (width_is_small i lt); new = none_told (ranges_told p i) [] (row_name p i) (before_range i lt) }))
 
-    pub ranges_done : Bool → List Telling → Told
+    abbrev pub ranges_done : Bool → List Telling → Told
     ranges_done b ts = behind_columns p (with_section b sections.Ranges (with_section a sections.Rhs first_sections)) a sides b ts false [] []
 
     closed_ranges : (b : Bool) (ts : List Telling) → b ≡ true → stage b ts ≡ ranges_done b ts

@@ -199,10 +199,10 @@ module _ (p : Program) (good : IsProgram p) (small : HasSmallNumbers p) where
         (is_zero (right_side (sides_at p i).low (sides_at p i).high)))
 
   -- whether there are right sides
-  pub has_sides : Bool
+  abbrev pub has_sides : Bool
   has_sides = has_lines (constant_lines p ++ each (length p.rows) (side_lines p))
 
-  pub sides_done : Bool → List Telling → Told
+  abbrev pub sides_done : Bool → List Telling → Told
   sides_done a ts = behind_columns p (with_section a sections.Rhs first_sections) a ts false [] false [] []
 
   no_sides_told : constant_lines p ++ each (length p.rows) (side_lines p) ≡ [] → sides_told p (length p.rows) ≡ []
