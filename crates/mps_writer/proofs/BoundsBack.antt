@@ -293,7 +293,7 @@ module _ (p : Program) (good : IsProgram p) (small : HasSmallNumbers p) (a : Boo
   bounds_done c ts = behind_columns p (with_section c sections.Bounds (with_section b sections.Ranges (with_section a sections.Rhs first_sections))) a sides b ranges c ts []
 
   closed_bounds : (c : Bool) (ts : List BoundTelling) → c ≡ true → stage c ts ≡ bounds_done c ts
-  unfolding stage bounds_done
+  unfolding stage
   closed_bounds true ts e = refl
   closed_bounds false ts e = absurd cc
 
@@ -334,7 +334,7 @@ module _ (p : Program) (good : IsProgram p) (small : HasSmallNumbers p) (a : Boo
   -- the section
   pub bounds_read : Lead (behind_columns p (with_section b sections.Ranges (with_section a sections.Rhs first_sections)) a sides b ranges false [] []) (bounds_lines p)
       (bounds_done (has_lines (each (length p.columns) (λ j. bound_lines (column_name p j) (bounds_at p j).low (bounds_at p j).high))) (bounds_told p (length p.columns)))
-  unfolding stage bounds_done bound_lines_to
+  unfolding stage bound_lines_to
   bounds_read =
       section_read (codes "BOUNDS") (bound_lines_to (length p.columns)) _ (stage false []) (stage (has_lines (bound_lines_to (length p.columns))) (bounds_told p (length p.columns))) _
       bounds_header

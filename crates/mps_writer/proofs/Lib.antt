@@ -17,3 +17,4 @@ pub mod SidesBack
 pub mod RangesBack
 pub mod BoundsBack
 pub mod PairsBack
+pub mod ProgramBack

@@ -187,7 +187,7 @@ module _ (p : Program) (good : IsProgram p) (small : HasSmallNumbers p) (a : Boo
   pairs_done d ts = behind_columns p (with_section d sections.QuadObj (with_section c sections.Bounds (with_section b sections.Ranges (with_section a sections.Rhs first_sections)))) a sides b ranges c bounds ts
 
   closed_pairs : (d : Bool) (ts : List Telling) → d ≡ true → stage ts ≡ pairs_done d ts
-  unfolding stage pairs_done
+  unfolding stage
   closed_pairs true ts e = refl
   closed_pairs false ts e = absurd cc
 
@@ -210,7 +210,6 @@ module _ (p : Program) (good : IsProgram p) (small : HasSmallNumbers p) (a : Boo
   -- the section
   pub pairs_read : Lead (behind_columns p (with_section c sections.Bounds (with_section b sections.Ranges (with_section a sections.Rhs first_sections))) a sides b ranges c bounds []) (pairs_lines p)
       (pairs_done (has_lines (each (length p.columns) (row_pair_lines p))) (pairs_told p (length p.columns)))
-  unfolding pairs_done
   pairs_read =
       section_read (codes "QUADOBJ") (each (length p.columns) (row_pair_lines p)) _ (stage []) (stage (pairs_told p (length p.columns))) _
       pairs_header

@@ -131,7 +131,7 @@ module _ (p : Program) (good : IsProgram p) (small : HasSmallNumbers p) where
     ranges_done b ts = behind_columns p (with_section b sections.Ranges (with_section a sections.Rhs first_sections)) a sides b ts false [] []
 
     closed_ranges : (b : Bool) (ts : List Telling) → b ≡ true → stage b ts ≡ ranges_done b ts
-    unfolding stage ranges_done
+    unfolding stage
     closed_ranges true ts e = refl
     closed_ranges false ts e = absurd cc
 
@@ -152,7 +152,7 @@ module _ (p : Program) (good : IsProgram p) (small : HasSmallNumbers p) where
     -- the section
     pub ranges_read : Lead (behind_columns p (with_section a sections.Rhs first_sections) a sides false [] false [] []) (ranges_lines p)
         (ranges_done (has_lines (each (length p.rows) (λ i. range_lines (row_name p i) (width (sides_at p i).low (sides_at p i).high)))) (ranges_told p (length p.rows)))
-    unfolding stage ranges_done range_lines_to
+    unfolding stage range_lines_to
     ranges_read =
         section_read (codes "RANGES") (range_lines_to (length p.rows)) _ (stage false []) (stage (has_lines (range_lines_to (length p.rows))) (ranges_told p (length p.rows))) _
         ranges_header

@@ -213,7 +213,7 @@ module _ (p : Program) (good : IsProgram p) (small : HasSmallNumbers p) where
       rw (rows, constant) refl
 
   closed_sides : (a : Bool) (ts : List Telling) → a ≡ true → rhs_stage p a ts ≡ sides_done a ts
-  unfolding rhs_stage sides_done
+  unfolding rhs_stage
   closed_sides true ts e = refl
   closed_sides false ts e = absurd cc
 
@@ -225,7 +225,7 @@ module _ (p : Program) (good : IsProgram p) (small : HasSmallNumbers p) where
 
   -- the section
   pub right_sides_read : Lead (in_columns p (length p.columns) false (entries_told p (length p.columns))) (right_sides_lines p) (sides_done has_sides (sides_told p (length p.rows)))
-  unfolding rhs_stage sides_done has_sides side_lines_to
+  unfolding rhs_stage side_lines_to
   right_sides_read =
       section_read (codes "RHS") (constant_lines p ++ each (length p.rows) (side_lines p)) _ (rhs_stage p false []) (rhs_stage p (has_lines (side_lines_to (length p.rows))) (sides_told p (length p.rows))) _
       rhs_header
