@@ -18,3 +18,4 @@ pub mod RangesBack
 pub mod BoundsBack
 pub mod PairsBack
 pub mod ProgramBack
+pub mod Bared
