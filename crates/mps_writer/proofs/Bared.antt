@@ -53,7 +53,7 @@ program_bare told =
 -- ---- end faults
 
 -- a range that makes no side too large
-pub NonePast : Told → List Telling → Type 0
+abbrev pub NonePast : Told → List Telling → Type 0
 NonePast told [] = Unit {0}
 NonePast told (t ∷ ts) = (is_range_past told t ≡ false) × NonePast told ts
 
@@ -61,12 +61,10 @@ past_bare : (told : Told) (t : Telling) → is_range_past (erase told) (bare t) 
 past_bare told t = ap (λ (o : Option ℚ). makes_past (named told.rows t.row) (unwrap_or o zero_ℚ) t.value) (value_bare told.sides [] t.row)
 
 none_past_bare : (told : Told) (ts : List Telling) → NonePast (erase told) (map bare ts) → NonePast told ts
-unfolding NonePast
 none_past_bare told [] h = tt
 none_past_bare told (t ∷ ts) h = (sym (past_bare told t) ∙ h.0, none_past_bare told ts h.1)
 
 no_line : (told : Told) (ts : List Telling) → NonePast told ts → first_line (is_range_past told) ts ≡ None
-unfolding NonePast
 no_line told [] h = refl
 no_line told (t ∷ ts) h = rw (no_line told ts h.1, h.0) refl
 

@@ -19,3 +19,4 @@ pub mod BoundsBack
 pub mod PairsBack
 pub mod ProgramBack
 pub mod Bared
+pub mod FileBack

@@ -127,6 +127,9 @@ no_pairs_told p e =
 
 -- ---- the lines
 
+pub all_pairs_bare : (p : Program) (n : ℕ) → map bare (pairs_told p n) ≡ pairs_told p n
+all_pairs_bare p n = each_bare n (λ j. row_pairs_told p j (length p.columns - j)) (λ j. each_bare (length p.columns - j) (λ d. pair_told p j (j + d)) (λ d. unless_zero_bare (column_name p j) (column_name p (j + d)) (at (row_at p.pairs j) (j + d))))
+
 either_none : (a b : Bool) → a ≡ false → b ≡ false → (a || (b || false)) ≡ false
 either_none a b e f = rw (e, f) refl
 
@@ -148,12 +151,9 @@ module _ (p : Program) (good : IsProgram p) (small : HasSmallNumbers p) (a : Boo
   told_before : ℕ → ℕ → List Telling
   told_before j d = row_pairs_told p j d ++ pairs_told p j
 
-  pairs_bare : (n : ℕ) → map bare (pairs_told p n) ≡ pairs_told p n
-  pairs_bare n = each_bare n (λ j. row_pairs_told p j (length p.columns - j)) (λ j. each_bare (length p.columns - j) (λ d. pair_told p j (j + d)) (λ d. unless_zero_bare (column_name p j) (column_name p (j + d)) (at (row_at p.pairs j) (j + d))))
-
   before_bare : (j d : ℕ) → map bare (told_before j d) ≡ told_before j d
   unfolding told_before
-  before_bare j d = append_bare (row_pairs_told p j d) (pairs_told p j) (each_bare d (λ e. pair_told p j (j + e)) (λ e. unless_zero_bare (column_name p j) (column_name p (j + e)) (at (row_at p.pairs j) (j + e)))) (pairs_bare j)
+  before_bare j d = append_bare (row_pairs_told p j d) (pairs_told p j) (each_bare d (λ e. pair_told p j (j + e)) (λ e. unless_zero_bare (column_name p j) (column_name p (j + e)) (at (row_at p.pairs j) (j + e)))) (all_pairs_bare p j)
 
   pair_read : (j d : ℕ) → j + d < length p.columns → (zero_or_not : Bool)
       → Lead (stage (told_before j d)) (if zero_or_not then [] else number_line (column_name p j ∷ column_name p (j + d) ∷ []) (at (row_at p.pairs j) (j + d)) ∷ [])

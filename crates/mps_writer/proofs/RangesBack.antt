@@ -61,7 +61,7 @@ module _ (p : Program) (good : IsProgram p) (small : HasSmallNumbers p) where
   width_at : ℕ → Option ℚ
   width_at i = width (sides_at p i).low (sides_at p i).high
 
-  row_is_good : (i : ℕ) → i < length p.rows → IsRow (sides_at p i)
+  pub row_is_good : (i : ℕ) → i < length p.rows → IsRow (sides_at p i)
   row_is_good i lt = good.good_rows i no_sides (omega (arith, length-map (λ (r : List ℕ × Row). r.1) p.rows))
 
   width_is_small : (i : ℕ) → i < length p.rows → IfSome (width (sides_at p i).low (sides_at p i).high) (λ q. Fits max_part q)
@@ -79,7 +79,7 @@ module _ (p : Program) (good : IsProgram p) (small : HasSmallNumbers p) where
       (λ k less differs. range_elsewhere (row_name p k) (row_name p i) _ (rows_differ p good i k lt less (λ e. differs (sym e))))
       ∙ range_here (row_name p i) (width (sides_at p i).low (sides_at p i).high)
 
-  ranges_bare : (n : ℕ) → map bare (ranges_told p n) ≡ ranges_told p n
+  pub ranges_bare : (n : ℕ) → map bare (ranges_told p n) ≡ ranges_told p n
   ranges_bare n = each_bare n (λ k. range_told (row_name p k) (width (sides_at p k).low (sides_at p k).high)) (λ k. range_bare (row_name p k) _)
 
   range_lines_to : ℕ → List (List ℕ)

@@ -1,6 +1,7 @@
 -- Lines that are taken one after another.
 use Rattle.std.specs.Prelude.{◌≡◌, ℕ, zero, suc, ◌+◌, ◌<◌, ◌≤◌, ◌==◌, ◌&&◌, ◌||◌, not, nat_lt, Bool, true, false, List, [], ◌∷◌, ◌++◌, length, reverse, Option, Some, None, Result, Ok, Err, option_to_list, if◌then◌else◌}
 use Rattle.std.proofs.Common.{arith, refl, sym, ap, subst, ◌∙◌, append_assoc}
+use Rattle.std.specs.List.{AllByRecursion}
 use Rattle.std.proofs.lemmas.List.{append-nil, length-append}
 use Rattle.std.proofs.lemmas.Bool.Decides.{nat_tests}
 use Rattle.mps_tokens.specs.FieldsOf.{fields_of}
@@ -28,6 +29,7 @@ next told line = erase (told_after told line)
 
 -- a line is taken: it has no fault where it lies within reach, and isn't the last
 pub record IsTaken (told : Told) (line : List ℕ) : Type 0 where
+  pub one : IsLine line
   pub whole : without_return line ≡ line
   pub clean : (at : ℕ) → at + length line ≤ reach → line_fault told at line ≡ None
   pub more : ends line ≡ false
@@ -143,11 +145,6 @@ not_ended : (p b : Bool) (h : Option Section) → b ≡ true → is_end (if (not
 not_ended true b h e = refl
 not_ended false b h e = rw e refl
 
-not_last : (p b : Bool) (h : Option Section) → is_end h ≡ false → is_end (if (not p && not b) then h else None) ≡ false
-not_last true b h e = refl
-not_last false true h e = refl
-not_last false false h e = e
-
 -- a data line is taken
 pub takes_data : (told : Told) (s : Section) (ss : List Section) (f : List ℕ) (fs : List (List ℕ)) → told.sections ≡ s ∷ ss → AreWords (f ∷ fs) → first_of (data_tests told s (f ∷ fs)) ≡ None
     → IsTaken told (data_line (f ∷ fs)) × (next told (data_line (f ∷ fs)) ≡ erase (told_more told s (f ∷ fs)))
@@ -159,23 +156,37 @@ takes_data told s ss f fs section words none =
     let shown = shown_by (data_line (f ∷ fs)) (f ∷ fs) true whole plain refl refl fields (some_fields (length fs)) in
     let content = data_content told (is_indented (data_line (f ∷ fs))) told.sections (fields_of (data_line (f ∷ fs))) (f ∷ fs) s ss (named section_names (field (fields_of (data_line (f ∷ fs))) 0)) refl section fields in
     (record {
+       one = one;
        whole = whole;
        clean = λ at within. content_fault told at (data_line (f ∷ fs)) (f ∷ fs) true shown within (ap first_of content.0 ∙ none);
        more = not_ended (is_passed (data_line (f ∷ fs))) (is_indented (data_line (f ∷ fs))) (named section_names (field (fields_of (data_line (f ∷ fs))) 0)) refl;
      },
      told_when told (told_content told (data_line (f ∷ fs))) (is_passed (data_line (f ∷ fs))) shown.passed ∙ ap erase content.1)
 
+-- a header has no fault
+pub header_told : (told : Told) (word : List ℕ) (s : Section) → without_return word ≡ word → is_plain word ≡ true → is_comment word ≡ false → is_indented word ≡ false → fields_of word ≡ word ∷ []
+    → named section_names word ≡ Some s → first_of (header_tests told (Some s)) ≡ None
+    → ((at : ℕ) → at + length word ≤ reach → line_fault told at word ≡ None) × (next told word ≡ erase (record told { sections = s ∷ told.sections })) × (section_in word ≡ Some s)
+header_told told word s whole plain comment front fields section none =
+    let shown = shown_by word (word ∷ []) false whole plain comment front fields (some_fields 0) in
+    let name : named section_names (field (fields_of word) 0) ≡ Some s = ap (λ (fs : List (List ℕ)). named section_names (field fs 0)) fields ∙ section in
+    let content = header_content told (is_indented word) told.sections (fields_of word) (named section_names (field (fields_of word) 0)) s front name in
+    (λ at within. content_fault told at word (word ∷ []) false shown within (ap first_of content.0 ∙ none),
+     told_when told (told_content told word) (is_passed word) shown.passed ∙ ap erase content.1,
+     header_found (is_passed word) (is_indented word) (named section_names (field (fields_of word) 0)) shown.passed front ∙ name)
+  where
+    header_found : (p b : Bool) (h : Option Section) → p ≡ false → b ≡ false → (if (not p && not b) then h else None) ≡ h
+    header_found p b h e f = rw (e, f) refl
+
 -- a header is taken
 pub takes_header : (told : Told) (word : List ℕ) (s : Section) → without_return word ≡ word → is_plain word ≡ true → is_comment word ≡ false → is_indented word ≡ false → fields_of word ≡ word ∷ []
     → named section_names word ≡ Some s → first_of (header_tests told (Some s)) ≡ None → is_end (Some s) ≡ false
     → IsTaken told word × (next told word ≡ erase (record told { sections = s ∷ told.sections }))
 takes_header told word s whole plain comment front fields section none more =
-    let shown = shown_by word (word ∷ []) false whole plain comment front fields (some_fields 0) in
-    let name : named section_names (field (fields_of word) 0) ≡ Some s = ap (λ (fs : List (List ℕ)). named section_names (field fs 0)) fields ∙ section in
-    let content = header_content told (is_indented word) told.sections (fields_of word) (named section_names (field (fields_of word) 0)) s front name in
-    (record {
-       whole = whole;
-       clean = λ at within. content_fault told at word (word ∷ []) false shown within (ap first_of content.0 ∙ none);
-       more = not_last (is_passed word) (is_indented word) (named section_names (field (fields_of word) 0)) (ap is_end name ∙ more);
-     },
-     told_when told (told_content told word) (is_passed word) shown.passed ∙ ap erase content.1)
+    let t = header_told told word s whole plain comment front fields section none in
+    (record { one = plain_line word plain; whole = whole; clean = t.0; more = ap is_end t.2 ∙ more }, t.1)
+
+-- lines that are taken are lines
+pub are_lines : (told after : Told) (lines : List (List ℕ)) → Lead told lines after → AllByRecursion IsLine lines
+are_lines told after [] h = tt
+are_lines told after (line ∷ lines) h = (h.0.one, are_lines (next told line) after lines h.1)
