@@ -29,7 +29,9 @@ use Rattle.mps_grammar.specs.Reading.{Spot, behind, told_verdict, told_of, finis
 use Rattle.mps_writer.specs.Lines.{each, data_line, lines_text, has_lines}
 use Rattle.mps_writer.specs.Small.{HasSmallNumbers}
 use Rattle.mps_writer.specs.Canonical.{row_name, sides_at, right_side, width, side_lines, constant_lines, range_lines, bound_lines, column_name, bounds_at, row_pair_lines, rows_lines, columns_lines, right_sides_lines, ranges_lines, bounds_lines, pairs_lines, program_lines, text_of_program}
-use Rattle.mps_writer.proofs.Erased.{bare, erase}
+use Rattle.mps_grammar.proofs.After.{told_line}
+use Rattle.mps_writer.proofs.Fields.{plain_line}
+use Rattle.mps_writer.proofs.Erased.{bare, erase, fault_bare, after_bare}
 use Rattle.mps_writer.proofs.Bared.{NonePast, program_bare, no_end_fault}
 use Rattle.mps_writer.proofs.Lookups.{each_back, telling, other_bytes, same_bytes}
 use Rattle.mps_writer.proofs.Names.{rows_differ, objective_differs}
@@ -243,3 +245,60 @@ module _ (p : Program) where
 
     program_told : (told : Told) → erase told ≡ last_told (sections.EndData ∷ all_sections) → program_of told ≡ p
     program_told told e = sym (program_bare told) ∙ ap program_of e ∙ program_is
+
+    last_line : IsLine (codes "ENDATA")
+    last_line = plain_line (codes "ENDATA") refl
+
+    all_are_lines : (lines : List (List ℕ)) → AllByRecursion IsLine lines → AllByRecursion IsLine (lines ++ codes "ENDATA" ∷ [])
+    all_are_lines [] h = (last_line, tt)
+    all_are_lines (line ∷ lines) h = (h.0, all_are_lines lines h.1)
+
+    raw_back : raw_lines (text_of_program p) ≡ body ++ codes "ENDATA" ∷ []
+    raw_back =
+        ap (λ (lines : List (List ℕ)). raw_lines (lines_text lines)) all_lines
+        ∙ lines_back (body ++ codes "ENDATA" ∷ []) (all_are_lines body (are_lines nothing_told (last_told all_sections) body body_read))
+
+    text_bytes : length (text_of_program p) ≡ bytes_of body + 7
+    text_bytes = text_length (program_lines p) ∙ ap bytes_of all_lines ∙ bytes-append body (codes "ENDATA" ∷ [])
+
+    line_count : length (program_lines p) ≡ length body + 1
+    line_count = ap length all_lines ∙ length-append body (codes "ENDATA" ∷ [])
+
+    module _ (within : length (text_of_program p) ≤ reach) where
+      body_led : IsLed 0 [] body (codes "ENDATA" ∷ []) (last_told all_sections)
+      body_led = led 0 [] body (codes "ENDATA" ∷ []) nothing_told (last_told all_sections) refl body_read (omega (arith, text_bytes))
+
+      -- the lines, the last one first
+      abbrev taken : List (List ℕ)
+      taken = codes "ENDATA" ∷ onto body []
+
+      last_clean : line_fault (told_by (onto body [])) (0 + bytes_of body) (codes "ENDATA") ≡ None
+      last_clean =
+          sym (fault_bare (told_by (onto body [])) (0 + bytes_of body) (codes "ENDATA"))
+          ∙ ap (λ (t : Told). line_fault t (0 + bytes_of body) (codes "ENDATA")) body_led.told
+          ∙ end_told.0 (0 + bytes_of body) (omega (arith, text_bytes))
+
+      all_told : erase (told_by taken) ≡ last_told (sections.EndData ∷ all_sections)
+      all_told =
+          ap erase (told_line (onto body []) (codes "ENDATA")) ∙ sym (after_bare (told_by (onto body [])) (codes "ENDATA"))
+          ∙ ap (λ (t : Told). next t (codes "ENDATA")) body_led.told ∙ end_told.1
+
+      verdict_is : verdict_of (text_of_program p) ≡ Ok (taken, 0 + bytes_of body + 6 + 1)
+      verdict_is = ap (λ (lines : List (List ℕ)). verdict 0 [] lines) raw_back ∙ body_led.goes_on ∙ rw last_clean refl
+
+      -- the text's end
+      spot_is : behind (text_of_program p) (taken, 0 + bytes_of body + 6 + 1) ≡ (length (text_of_program p), length (program_lines p) + 1)
+      spot_is =
+          let bytes : min (0 + bytes_of body + 6 + 1) (length (text_of_program p)) ≡ length (text_of_program p) = omega (arith, text_bytes) in
+          let count : suc (length (onto body [])) + 1 ≡ length (program_lines p) + 1 = omega (arith, length-onto body [], line_count) in
+          ap (λ (n : ℕ). (n, suc (length (onto body [])) + 1)) bytes ∙ ap (λ (n : ℕ). (length (text_of_program p), n)) count
+
+      finished_is : (told : Told) (spot : Spot) (f : Option Fault) → f ≡ None → finished told spot f ≡ Ok (program_of told, spot)
+      finished_is told spot f e = rw e refl
+
+      pub text_back : read_of (text_of_program p) ≡ Ok (p, (length (text_of_program p), length (program_lines p) + 1))
+      text_back =
+          ap (λ (v : Result (List (List ℕ) × ℕ) Fault). read_told (told_verdict (text_of_program p) v)) verdict_is
+          ∙ finished_is (told_by taken) _ (end_fault (told_by taken)) (no_fault_at_end (told_by taken) all_told)
+          ∙ ap (λ (q : Program). Ok (q, behind (text_of_program p) (taken, 0 + bytes_of body + 6 + 1))) (program_told (told_by taken) all_told)
+          ∙ ap (λ (spot : Spot). Ok (p, spot)) spot_is

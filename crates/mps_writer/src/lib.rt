@@ -12,7 +12,7 @@ mod rows;
 mod sides;
 mod writing;
 
-pub use laws::numbers_are_read_back;
+pub use laws::{numbers_are_read_back, text_is_read_back};
 pub use writing::write;
 
 #[cfg(test)]
