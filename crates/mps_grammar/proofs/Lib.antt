@@ -1,0 +1,2 @@
+pub mod After
+mod Examples

@@ -1,0 +1,19 @@
+//! The canonical text of a program.
+#![tactic(auto)]
+
+mod bounds;
+mod columns;
+mod laws;
+mod lines;
+mod numbers;
+mod pairs;
+mod parts;
+mod rows;
+mod sides;
+mod writing;
+
+pub use laws::{numbers_are_read_back, text_is_read_back};
+pub use writing::write;
+
+#[cfg(test)]
+mod tests;
