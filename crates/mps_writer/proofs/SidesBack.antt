@@ -110,7 +110,7 @@ two_tests a b c d e = grind (arith, nat_tests)
 pub fits_back : (top : ℕ) (q : ℚ) → fits top q ≡ true → Fits top q
 fits_back top q e = two_tests (unsigned_abs q.num) top q.den top e
 
-zero_small : Fits max_part zero_ℚ
+pub zero_small : Fits max_part zero_ℚ
 zero_small =
     (subst (λ (n : ℤ). unsigned_abs n ≤ max_part) (sym (num-whole (pos 0))) (lit≤ tt),
      subst (λ (d : ℕ). d ≤ max_part) (sym (den-whole (pos 0))) (lit≤ tt))
