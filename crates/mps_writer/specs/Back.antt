@@ -1,5 +1,5 @@
 -- Reading a program's text back.
-use Rattle.std.specs.Prelude.{◌≡◌, ℕ, ◌+◌, ◌≤◌, length, Ok}
+use Rattle.std.specs.Prelude.{◌≡◌, ◌+◌, ◌≤◌, length, Ok}
 use Rattle.program_law.specs.Program.{Program}
 use Rattle.mps_grammar.specs.Faults.{reach}
 use Rattle.mps_grammar.specs.Reading.{Spot, read_of}

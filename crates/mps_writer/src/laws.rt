@@ -12,11 +12,9 @@ ghost use Rattle.mps_writer.specs.Small.{HasSmallNumbers};
 /// The text of each number that fits is read as that number.
 pub fn numbers_are_read_back()
     ensures { (q : ℚ) → Fits max_part q → number_of (text_of q) ≡ Ok q }
-{
-}
+{}
 
 /// The canonical text of each program whose numbers fit is accepted, where it isn't too long, and stands for that program.
 pub fn text_is_read_back()
     ensures { (p : Program) → IsProgram p → HasSmallNumbers p → IsReadBack p }
-{
-}
+{}

@@ -3,8 +3,6 @@ use Rattle.std.proofs.Common.{ℕ, ◌<◌, length}
 use Rattle.rational.specs.Rational.{Fits}
 use Rattle.frac_core.specs.Parts.{max_part}
 use Rattle.program_law.specs.Vectors.{at, row_at}
-use Rattle.mps_writer.specs.Canonical.{sides_at, bounds_at}
-use Rattle.mps_writer.specs.Small.{HasSmallSides}
 use Rattle.mps_writer.proofs.small.small_entries.Given as goal
 
 abbrev pub invariant-loop-i : goal.invariant-loop-i
