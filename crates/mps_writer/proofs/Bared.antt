@@ -1,17 +1,14 @@
 -- The program and the end faults don't depend on the numbers of the lines.
-use Rattle.std.specs.Prelude.{◌≡◌, ◌&&◌, not, ℕ, Bool, true, false, List, [], ◌∷◌, map, Option, Some, None, unwrap_or, if◌then◌else◌}
+use Rattle.std.specs.Prelude.{◌≡◌, ℕ, Bool, true, false, List, [], ◌∷◌, map, Option, Some, None, unwrap_or, if◌then◌else◌}
 use Rattle.std.proofs.Common.{refl, sym, ap, ◌∙◌}
 use Rattle.std.proofs.Math.Path.{fun_ext}
-use Rattle.std.specs.List.{list_any, AllByRecursion}
 use Rattle.rational.specs.Rational.{ℚ, zero_ℚ, neg_ℚ}
 use Rattle.program_law.specs.Program.{Program}
 use Rattle.mps_tokens.specs.declared.words.RowKind.{RowKind}
 use Rattle.mps_tokens.specs.Cases.{named}
-use Rattle.mps_grammar.specs.declared.kinds.FaultKind.{FaultKind}
 use Rattle.mps_grammar.specs.declared.kinds.FaultKind.TheVariants as kinds
 use Rattle.mps_grammar.specs.Told.{Told, Telling, is_at, names_of, program_rows}
-use Rattle.mps_grammar.specs.Programs.{or_other, value_at, value_told, sides_of, column_of, gives_pairs_once, objective_of, program_of, makes_past, is_range_past, is_lopsided, first_line, fault_at, range_fault, pair_fault, end_fault}
-use Rattle.mps_grammar.specs.Verdict.{Fault}
+use Rattle.mps_grammar.specs.Programs.{or_other, value_at, sides_of, column_of, gives_pairs_once, objective_of, program_of, makes_past, is_range_past, is_lopsided, first_line, fault_at, range_fault, pair_fault, end_fault}
 use Rattle.mps_writer.proofs.Erased.{bare, erase}
 
 value_bare : (ts : List Telling) (column row : List ℕ) → value_at (map bare ts) column row ≡ value_at ts column row
@@ -39,7 +36,7 @@ by_found told entries sides ranges pairs =
       costs = map (λ (column : List ℕ). unwrap_or (entries column (objective_of told)) zero_ℚ) (names_of told.columns);
       constant = neg_ℚ (unwrap_or (sides [] (objective_of told)) zero_ℚ);
       pairs =
-        map (λ (one : List ℕ). map (λ (other : List ℕ). if gives_pairs_once told then unwrap_or (or_other (pairs one other) (pairs other one)) zero_ℚ else unwrap_or (pairs one other) zero_ℚ) (names_of told.columns)) (names_of told.columns);
+          map (λ (one : List ℕ). map (λ (other : List ℕ). if gives_pairs_once told then unwrap_or (or_other (pairs one other) (pairs other one)) zero_ℚ else unwrap_or (pairs one other) zero_ℚ) (names_of told.columns)) (names_of told.columns);
     }
 
 pub program_bare : (told : Told) → program_of (erase told) ≡ program_of told

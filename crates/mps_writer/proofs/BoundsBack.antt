@@ -1,7 +1,6 @@
 -- The bounds of a program's text are read back.
-use Rattle.std.specs.Prelude.{◌≡◌, ◌≢◌, ◌<◌, ◌≤◌, ◌+◌, ◌&&◌, ◌||◌, not, ℕ, zero, suc, Bool, true, false, List, [], ◌∷◌, ◌++◌, map, length, Option, Some, None, IfSome, Result, Ok, Err, is_some, codes, if◌then◌else◌}
-use Rattle.std.proofs.Common.{arith, refl, sym, ap, subst, append_assoc, ◌∙◌, inl, inr}
-use Rattle.std.specs.List.{list_any}
+use Rattle.std.specs.Prelude.{◌≡◌, ◌≢◌, ◌<◌, ◌&&◌, ◌||◌, not, ℕ, zero, suc, Bool, true, false, List, [], ◌∷◌, ◌++◌, map, length, Option, Some, None, IfSome, is_some, codes, if◌then◌else◌}
+use Rattle.std.proofs.Common.{arith, refl, sym, ap, ◌∙◌, inl, inr}
 use Rattle.std.specs.Str.{bytes_eq}
 use Rattle.std.proofs.lemmas.List.{append-nil}
 use Rattle.std.proofs.lemmas.Bool.{cases_lt}
@@ -9,7 +8,6 @@ use Rattle.rational.specs.Rational.{ℚ, Fits, zero_ℚ}
 use Rattle.rational.specs.Order.{same_fields, same_fields_lem}
 use Rattle.frac_core.specs.Parts.{max_part}
 use Rattle.frac_core.specs.Text.{text_of}
-use Rattle.program_law.specs.declared.Column.{Column}
 use Rattle.program_law.specs.Tests.{is_zero, is_negative}
 use Rattle.program_law.proofs.Numbers.{zero_is}
 use Rattle.program_law.specs.Program.{Program, IsProgram}
@@ -23,13 +21,13 @@ use Rattle.mps_grammar.specs.declared.kinds.FaultKind.TheVariants as kinds
 use Rattle.mps_grammar.specs.Fields.{Bounded, bound_in, bound_kind_in}
 use Rattle.mps_grammar.specs.Told.{Told, Telling, BoundTelling, names_of, is_used, first_named, bound_value, bound_set_of, with_bound, value_or_zero}
 use Rattle.mps_grammar.specs.Faults.{first_of, is_long, is_no_number, is_past, of_number, bounded_tests, bound_tests, header_tests, data_tests}
-use Rattle.mps_grammar.specs.Programs.{bounds_for, bounded, left_low, sets_low}
-use Rattle.mps_writer.specs.Lines.{each, data_line, number_line, unless_zero, has_lines}
+use Rattle.mps_grammar.specs.Programs.{bounds_for, bounded}
+use Rattle.mps_writer.specs.Lines.{each, data_line, number_line, has_lines}
 use Rattle.mps_writer.specs.Small.{HasSmallNumbers}
-use Rattle.mps_writer.specs.Canonical.{column_name, bounds_at, bound_line, low_lines, both_lines, bound_lines, bounds_lines}
+use Rattle.mps_writer.specs.Canonical.{column_name, bounds_at, bound_line, low_lines, bound_lines, bounds_lines}
 use Rattle.mps_writer.proofs.Numerals.{number_back}
 use Rattle.mps_writer.proofs.Erased.{bare}
-use Rattle.mps_writer.proofs.Fields.{IsWord, AreWords, number_word}
+use Rattle.mps_writer.proofs.Fields.{AreWords, number_word}
 use Rattle.mps_writer.proofs.Lookups.{each_back, other_bytes, same_bytes}
 use Rattle.mps_writer.proofs.Names.{column_word, column_short, columns_differ}
 use Rattle.mps_writer.proofs.LineLemmas.{has_append}
@@ -138,8 +136,8 @@ for_somewhere (suc n) f name j lt h =
     ∙ elim (cases_lt j n) [
       | inl below ↦ rw (h n (omega arith) (λ e. omega arith)) (for_somewhere n f name j below (λ i less other. h i (omega (arith, less)) other))
       | inr above ↦
-        let last : j ≡ n = omega arith in
-        rw (for_nowhere n f name (λ i less. h i (omega (arith, less)) (λ e. omega arith)), last) (append-nil (bounds_for (f n) name))
+          let last : j ≡ n = omega arith in
+          rw (for_nowhere n f name (λ i less. h i (omega (arith, less)) (λ e. omega arith)), last) (append-nil (bounds_for (f n) name))
     ]
 
 pub found_bounds : (p : Program) → IsProgram p → (j : ℕ) → j < length p.columns → bounds_for (bounds_told p (length p.columns)) (column_name p j) ≡ bound_told (column_name p j) (bounds_at p j).low (bounds_at p j).high
@@ -191,14 +189,15 @@ module _ (p : Program) (good : IsProgram p) (small : HasSmallNumbers p) (a : Boo
   unfolding stage
   bound_read c ts word fields kind name number value h =
       let none : first_of (data_tests (stage c ts) sections.Bounds (word ∷ fields)) ≡ None = ap first_of h.tests ∙ four_none _ _ _ _ h.short (is_known _ h.known) h.text h.past in
-      let t = takes_data (stage c ts) sections.Bounds (with_section b sections.Ranges (with_section a sections.Rhs first_sections)) word fields refl h.words none in
-      (t.0,
-       t.1
-       ∙ ap (λ (o : Option (BoundKind × Bounded)). record (stage false (with_bound (set_if c (codes "BND")) o ts)) { bound_set = first_named (set_if c (codes "BND")) (bound_set_of o); entries = map bare (entries_told p (length p.columns)); sides = map bare sides; ranges = map bare ranges }) h.found
-       ∙ plain_stage (first_named (set_if c (codes "BND")) (Some (codes "BND"))) (with_bound (set_if c (codes "BND")) (Some (kind, of_set name number)) ts)
-       ∙ ap (λ (s : Option (List ℕ)). record (stage false (with_bound (set_if c (codes "BND")) (Some (kind, of_set name number)) ts)) { bound_set = s }) (named_set c (codes "BND"))
-       ∙ ap (λ (us : List BoundTelling). stage true us) (used_bound (is_used (set_if c (codes "BND")) (codes "BND")) (bound_telling kind name (bound_value number)) ts (used_set c (codes "BND")))
-       ∙ ap (λ (v : ℚ). stage true (bound_telling kind name v ∷ ts)) h.value_is)
+      let t = takes_data (stage c ts) sections.Bounds (with_section b sections.Ranges (with_section a sections.Rhs first_sections)) word fields refl h.words none in (
+        t.0,
+        t.1
+            ∙ ap (λ (o : Option (BoundKind × Bounded)). record (stage false (with_bound (set_if c (codes "BND")) o ts)) { bound_set = first_named (set_if c (codes "BND")) (bound_set_of o); entries = map bare (entries_told p (length p.columns)); sides = map bare sides; ranges = map bare ranges }) h.found
+            ∙ plain_stage (first_named (set_if c (codes "BND")) (Some (codes "BND"))) (with_bound (set_if c (codes "BND")) (Some (kind, of_set name number)) ts)
+            ∙ ap (λ (s : Option (List ℕ)). record (stage false (with_bound (set_if c (codes "BND")) (Some (kind, of_set name number)) ts)) { bound_set = s }) (named_set c (codes "BND"))
+            ∙ ap (λ (us : List BoundTelling). stage true us) (used_bound (is_used (set_if c (codes "BND")) (codes "BND")) (bound_telling kind name (bound_value number)) ts (used_set c (codes "BND")))
+            ∙ ap (λ (v : ℚ). stage true (bound_telling kind name v ∷ ts)) h.value_is,
+      )
 
   module _ (j : ℕ) (lt : j < length p.columns) where
     known : is_some (place_of (names_of (told_columns p (length p.columns))) (column_name p j)) ≡ true
@@ -251,7 +250,7 @@ module _ (p : Program) (good : IsProgram p) (small : HasSmallNumbers p) (a : Boo
 
     two_read : (c d : Bool) (ts : List BoundTelling) (low high : ℚ) → Fits max_part low → Fits max_part high
         → Lead (stage c ts) ((if d then [] else bound_line (codes "LO") (column_name p j) low ∷ []) ++ bound_line (codes "UP") (column_name p j) high ∷ [])
-          (stage true ((bound_telling bound_kinds.Upper (column_name p j) high ∷ (if d then [] else bound_telling bound_kinds.Lower (column_name p j) low ∷ [])) ++ ts))
+        (stage true ((bound_telling bound_kinds.Upper (column_name p j) high ∷ (if d then [] else bound_telling bound_kinds.Lower (column_name p j) low ∷ [])) ++ ts))
     two_read c true ts low high h k = high_read c ts high k
     two_read c false ts low high h k =
         lead_on _ _ _ (bound_line (codes "LO") (column_name p j) low ∷ []) (bound_line (codes "UP") (column_name p j) high ∷ []) (low_read c ts low h) (high_read true (bound_telling bound_kinds.Lower (column_name p j) low ∷ ts) high k)
@@ -262,8 +261,8 @@ module _ (p : Program) (good : IsProgram p) (small : HasSmallNumbers p) (a : Boo
 
     both_read : (c d : Bool) (ts : List BoundTelling) (low high : ℚ) → Fits max_part low → Fits max_part high
         → Lead (stage c ts) (if d then bound_line (codes "FX") (column_name p j) low ∷ [] else (low_lines (column_name p j) low high ++ bound_line (codes "UP") (column_name p j) high ∷ []))
-          (stage (c || has_lines (if d then bound_line (codes "FX") (column_name p j) low ∷ [] else (low_lines (column_name p j) low high ++ bound_line (codes "UP") (column_name p j) high ∷ [])))
-            ((if d then bound_telling bound_kinds.Fixed (column_name p j) low ∷ [] else (bound_telling bound_kinds.Upper (column_name p j) high ∷ low_told (column_name p j) low high)) ++ ts))
+        (stage (c || has_lines (if d then bound_line (codes "FX") (column_name p j) low ∷ [] else (low_lines (column_name p j) low high ++ bound_line (codes "UP") (column_name p j) high ∷ [])))
+        ((if d then bound_telling bound_kinds.Fixed (column_name p j) low ∷ [] else (bound_telling bound_kinds.Upper (column_name p j) high ∷ low_told (column_name p j) low high)) ++ ts))
     both_read c true ts low high h k = begun_now c ts (bound_telling bound_kinds.Fixed (column_name p j) low ∷ ts) (bound_line (codes "FX") (column_name p j) low ∷ []) refl (fixed_read c ts low h)
     both_read c false ts low high h k =
         begun_now c ts ((bound_telling bound_kinds.Upper (column_name p j) high ∷ low_told (column_name p j) low high) ++ ts) (low_lines (column_name p j) low high ++ bound_line (codes "UP") (column_name p j) high ∷ [])

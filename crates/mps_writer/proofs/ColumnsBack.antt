@@ -1,6 +1,6 @@
 -- The columns of a program's text are read back.
-use Rattle.std.specs.Prelude.{◌≡◌, ◌≢◌, ◌<◌, ◌≤◌, ◌+◌, ◌&&◌, ◌||◌, not, nat_le, ℕ, zero, suc, Bool, true, false, List, [], ◌∷◌, ◌++◌, map, length, Option, Some, None, Result, Ok, Err, is_some, is_none, codes, if◌then◌else◌}
-use Rattle.std.proofs.Common.{arith, refl, sym, ap, subst, append_assoc, ◌∙◌, inl, inr}
+use Rattle.std.specs.Prelude.{◌≡◌, ◌<◌, ◌+◌, ◌&&◌, ◌||◌, nat_le, ℕ, suc, Bool, true, false, List, [], ◌∷◌, ◌++◌, map, length, Option, Some, None, Result, Ok, is_some, is_none, codes, if◌then◌else◌}
+use Rattle.std.proofs.Common.{arith, refl, sym, ap, append_assoc, ◌∙◌}
 use Rattle.std.specs.Str.{bytes_eq}
 use Rattle.std.proofs.lemmas.Bool.Decides.{nat_tests}
 use Rattle.rational.specs.Rational.{ℚ, Fits}
@@ -12,25 +12,23 @@ use Rattle.program_law.specs.Vectors.{at, row_at}
 use Rattle.program_law.specs.Places.{place_of}
 use Rattle.mps_tokens.specs.Numbers.{number_of}
 use Rattle.mps_tokens.specs.declared.fault.NumberFault.{NumberFault}
-use Rattle.mps_tokens.specs.declared.words.Section.{Section}
 use Rattle.mps_tokens.specs.declared.words.Section.TheVariants as sections
 use Rattle.mps_grammar.specs.declared.kinds.FaultKind.TheVariants as kinds
-use Rattle.mps_grammar.specs.Fields.{Pair, Entries, is_marker, entries_in, column_entries_in}
+use Rattle.mps_grammar.specs.Fields.{Entries}
 use Rattle.mps_grammar.specs.Told.{Told, Telling, names_of, is_told, with_column, with_entries, value_or_zero}
 use Rattle.mps_grammar.specs.Faults.{first_of, is_long, is_no_number, is_past, counts_row, entry_tests, marker_tests, data_tests}
-use Rattle.mps_grammar.specs.After.{told_more}
-use Rattle.mps_writer.specs.Lines.{each, data_line, number_line, unless_zero}
+use Rattle.mps_writer.specs.Lines.{each, number_line}
 use Rattle.mps_writer.specs.Small.{HasSmallNumbers}
-use Rattle.mps_writer.specs.Canonical.{row_name, column_name, is_marked, marked_before, marker_line, turn_lines, cost_line, entry_lines, column_lines, columns_lines}
+use Rattle.mps_writer.specs.Canonical.{row_name, column_name, is_marked, marked_before, turn_lines, cost_line, entry_lines, column_lines, columns_lines}
 use Rattle.mps_writer.proofs.Numerals.{number_back}
 use Rattle.mps_writer.proofs.Erased.{erase, bare}
 use Rattle.mps_writer.proofs.Fields.{IsWord, number_word}
-use Rattle.mps_writer.proofs.Lookups.{each_back, map-each, length-each, known_cons, known_each, unknown_each, other_bytes, same_bytes, telling, telling_unless_zero, none_told, or_true}
-use Rattle.mps_writer.proofs.Names.{row_word, column_word, objective_word, row_short, column_short, objective_short, rows_differ, columns_differ, objective_differs, row_no_marker, objective_no_marker}
+use Rattle.mps_writer.proofs.Lookups.{each_back, map-each, length-each, known_cons, known_each, unknown_each, same_bytes, telling, none_told, or_true}
+use Rattle.mps_writer.proofs.Names.{row_word, column_word, objective_word, row_short, column_short, objective_short, columns_differ, row_no_marker, objective_no_marker}
 use Rattle.mps_writer.proofs.Runs.{Lead, lead_on, lead_to, lead_each, takes_data, takes_header}
 use Rattle.mps_writer.proofs.RowsBack.{names_told}
 use Rattle.mps_writer.proofs.EntriesBack.{before_column, before_entry, entries_bare, append_bare, each_bare, unless_zero_bare}
-use Rattle.mps_writer.proofs.Stages.{nothing_told, told_rows, told_columns, in_rows, in_columns, entry_told, column_told, entries_told}
+use Rattle.mps_writer.proofs.Stages.{told_rows, told_columns, in_rows, in_columns, entry_told, entries_told}
 
 -- ---- markers
 
@@ -104,14 +102,15 @@ entry_read p n m b es head name q plain h columns =
     let told = in_columns p n b es in
     let fields : List (List ℕ) = head ∷ name ∷ text_of q ∷ [] in
     let none : first_of (data_tests (in_columns p n b es) sections.Columns (head ∷ name ∷ text_of q ∷ [])) ≡ None =
-      ap first_of (test_chosen (in_columns p n b es) (bytes_eq name marker) (head ∷ name ∷ text_of q ∷ []) (Some (head, (name, text_of q) ∷ [])) h.no_marker) ∙ entry_none (in_columns p n b es) head name q h in
-    let t = takes_data (in_columns p n b es) sections.Columns (sections.Rows ∷ sections.Name ∷ []) head (name ∷ text_of q ∷ []) refl (h.head_word, (h.name_word, (number_word q h.small, tt))) none in
-    (t.0,
-     t.1
-     ∙ told_chosen p n b es (bytes_eq name marker) _ (head, (name, text_of q) ∷ []) h.no_marker
-     ∙ ap (λ (cs : List (List ℕ × Bool)). record (in_columns p n b []) { columns = cs; entries = telling head name (value_or_zero (number_of (text_of q))) ∷ map bare es }) columns
-     ∙ ap (λ (v : ℚ). in_columns p m b (telling head name v ∷ map bare es)) (ap value_or_zero (number_back q h.small))
-     ∙ ap (λ (us : List Telling). in_columns p m b (telling head name q ∷ us)) plain)
+    ap first_of (test_chosen (in_columns p n b es) (bytes_eq name marker) (head ∷ name ∷ text_of q ∷ []) (Some (head, (name, text_of q) ∷ [])) h.no_marker) ∙ entry_none (in_columns p n b es) head name q h in
+    let t = takes_data (in_columns p n b es) sections.Columns (sections.Rows ∷ sections.Name ∷ []) head (name ∷ text_of q ∷ []) refl (h.head_word, (h.name_word, (number_word q h.small, tt))) none in (
+      t.0,
+      t.1
+          ∙ told_chosen p n b es (bytes_eq name marker) _ (head, (name, text_of q) ∷ []) h.no_marker
+          ∙ ap (λ (cs : List (List ℕ × Bool)). record (in_columns p n b []) { columns = cs; entries = telling head name (value_or_zero (number_of (text_of q))) ∷ map bare es }) columns
+          ∙ ap (λ (v : ℚ). in_columns p m b (telling head name v ∷ map bare es)) (ap value_or_zero (number_back q h.small))
+          ∙ ap (λ (us : List Telling). in_columns p m b (telling head name q ∷ us)) plain,
+    )
 
 with_new : (b : Bool) (cs : List (List ℕ × Bool)) (e : Entries) → is_some (place_of (names_of cs) e.0) ≡ false → with_column b cs (Some e) ≡ cs ++ (e.0, b) ∷ []
 with_new b cs e h = rw h refl
@@ -128,6 +127,7 @@ new_room b n lt = by b (below n lt)
   where
     below : (n : ℕ) → n < 128 → nat_le 128 n ≡ false
     below n lt = grind (arith, nat_tests)
+
     by : (b : Bool) → nat_le 128 n ≡ false → (b && nat_le 128 n) ≡ false
     by true e = e
     by false e = refl
@@ -160,16 +160,16 @@ module _ (p : Program) (good : IsProgram p) (small : HasSmallNumbers p) where
   cost_read j lt =
       entry_read p j (suc j) (is_marked p j) (entries_told p j) (column_name p j) p.objective (at p.costs j) (entries_bare p j)
       (record {
-         head_word = column_word p good j lt;
-         name_word = objective_word p good;
-         short_head = column_short p good j lt;
-         short_name = objective_short p good;
-         no_marker = objective_no_marker p good;
-         known = objective_known;
-         small = small.costs j;
-         new = none_told (entries_told p j) (column_name p j) p.objective (before_column p good j p.objective lt);
-         room = new_room (is_none (place_of (names_of (told_columns p j)) (column_name p j))) (length (told_columns p j)) (omega (arith, length-each {A = List ℕ × Bool} j (λ k. (column_name p k, is_marked p k)), good.few_columns));
-       })
+        head_word = column_word p good j lt;
+        name_word = objective_word p good;
+        short_head = column_short p good j lt;
+        short_name = objective_short p good;
+        no_marker = objective_no_marker p good;
+        known = objective_known;
+        small = small.costs j;
+        new = none_told (entries_told p j) (column_name p j) p.objective (before_column p good j p.objective lt);
+        room = new_room (is_none (place_of (names_of (told_columns p j)) (column_name p j))) (length (told_columns p j)) (omega (arith, length-each {A = List ℕ × Bool} j (λ k. (column_name p k, is_marked p k)), good.few_columns));
+      })
       (with_new (is_marked p j) (told_columns p j) (column_name p j, (p.objective, text_of (at p.costs j)) ∷ []) (new_column j lt))
 
   -- what is told before an entry's line
@@ -185,22 +185,22 @@ module _ (p : Program) (good : IsProgram p) (small : HasSmallNumbers p) where
 
   entries_read : (j i : ℕ) → j < length p.columns → i < length p.rows → (b : Bool)
       → Lead (in_columns p (suc j) (is_marked p j) (told_before j i)) (if b then [] else number_line (column_name p j ∷ row_name p i ∷ []) (at (row_at p.entries i) j) ∷ [])
-        (in_columns p (suc j) (is_marked p j) ((if b then [] else telling (column_name p j) (row_name p i) (at (row_at p.entries i) j) ∷ []) ++ told_before j i))
+      (in_columns p (suc j) (is_marked p j) ((if b then [] else telling (column_name p j) (row_name p i) (at (row_at p.entries i) j) ∷ []) ++ told_before j i))
   unfolding told_before
   entries_read j i jt it true = refl
   entries_read j i jt it false =
       entry_read p (suc j) (suc j) (is_marked p j) (told_before j i) (column_name p j) (row_name p i) (at (row_at p.entries i) j) (before_bare j i)
       (record {
-         head_word = column_word p good j jt;
-         name_word = row_word p good i it;
-         short_head = column_short p good j jt;
-         short_name = row_short p good i it;
-         no_marker = row_no_marker p good i it;
-         known = row_known i it;
-         small = small.entries i j;
-         new = none_told (told_before j i) (column_name p j) (row_name p i) (before_entry p good j i jt it);
-         room = known_room (place_of (names_of (told_columns p (suc j))) (column_name p j)) (nat_le 128 (length (told_columns p (suc j)))) (known_column (suc j) j (omega arith));
-       })
+        head_word = column_word p good j jt;
+        name_word = row_word p good i it;
+        short_head = column_short p good j jt;
+        short_name = row_short p good i it;
+        no_marker = row_no_marker p good i it;
+        known = row_known i it;
+        small = small.entries i j;
+        new = none_told (told_before j i) (column_name p j) (row_name p i) (before_entry p good j i jt it);
+        room = known_room (place_of (names_of (told_columns p (suc j))) (column_name p j)) (nat_le 128 (length (told_columns p (suc j)))) (known_column (suc j) j (omega arith));
+      })
       (with_known (is_marked p j) (told_columns p (suc j)) (column_name p j, (row_name p i, text_of (at (row_at p.entries i) j)) ∷ []) (known_column (suc j) j (omega arith)))
 
   row_entries_read : (j : ℕ) → j < length p.columns → Lead (in_columns p (suc j) (is_marked p j) (told_before j 0)) (each (length p.rows) (entry_lines p j)) (in_columns p (suc j) (is_marked p j) (told_before j (length p.rows)))
@@ -208,8 +208,8 @@ module _ (p : Program) (good : IsProgram p) (small : HasSmallNumbers p) where
   row_entries_read j jt =
       lead_each (length p.rows) (entry_lines p j) (λ i. in_columns p (suc j) (is_marked p j) (told_before j i))
       (λ i it. lead_to _ _ _ (entry_lines p j i)
-        (ap (λ (es : List Telling). in_columns p (suc j) (is_marked p j) es) (sym (append_assoc (entry_told p j i) (each_back i (entry_told p j)) (telling (column_name p j) p.objective (at p.costs j) ∷ entries_told p j))))
-        (entries_read j i jt it (is_zero (at (row_at p.entries i) j))))
+      (ap (λ (es : List Telling). in_columns p (suc j) (is_marked p j) es) (sym (append_assoc (entry_told p j i) (each_back i (entry_told p j)) (telling (column_name p j) p.objective (at p.costs j) ∷ entries_told p j))))
+      (entries_read j i jt it (is_zero (at (row_at p.entries i) j))))
 
   column_read : (j : ℕ) → j < length p.columns → Lead (in_columns p j (marked_before p j) (entries_told p j)) (column_lines p j) (in_columns p (suc j) (marked_before p (suc j)) (entries_told p (suc j)))
   unfolding told_before
@@ -217,8 +217,8 @@ module _ (p : Program) (good : IsProgram p) (small : HasSmallNumbers p) where
       lead_on _ _ _ (turn_lines (marked_before p j) (is_marked p j)) (cost_line p j ∷ each (length p.rows) (entry_lines p j)) (turn_read p j (entries_told p j) (entries_bare p j) (marked_before p j) (is_marked p j))
       (lead_on _ _ _ (cost_line p j ∷ []) (each (length p.rows) (entry_lines p j)) (cost_read j jt)
       (lead_to _ _ _ (each (length p.rows) (entry_lines p j))
-        (ap (λ (es : List Telling). in_columns p (suc j) (is_marked p j) es) (sym (append_assoc (each_back (length p.rows) (entry_told p j)) (telling (column_name p j) p.objective (at p.costs j) ∷ []) (entries_told p j))))
-        (row_entries_read j jt)))
+      (ap (λ (es : List Telling). in_columns p (suc j) (is_marked p j) es) (sym (append_assoc (each_back (length p.rows) (entry_told p j)) (telling (column_name p j) p.objective (at p.costs j) ∷ []) (entries_told p j))))
+      (row_entries_read j jt)))
 
   columns_header : Lead (in_rows p (length p.rows)) (codes "COLUMNS" ∷ []) (in_columns p 0 false [])
   columns_header = takes_header (in_rows p (length p.rows)) (codes "COLUMNS") sections.Columns refl refl refl refl refl refl refl refl
@@ -228,5 +228,5 @@ module _ (p : Program) (good : IsProgram p) (small : HasSmallNumbers p) where
   columns_read =
       lead_on _ _ _ (codes "COLUMNS" ∷ []) (each (length p.columns) (column_lines p) ++ turn_lines (marked_before p (length p.columns)) false) columns_header
       (lead_on _ _ _ (each (length p.columns) (column_lines p)) (turn_lines (marked_before p (length p.columns)) false)
-        (lead_each (length p.columns) (column_lines p) (λ j. in_columns p j (marked_before p j) (entries_told p j)) column_read)
-        (turn_read p (length p.columns) (entries_told p (length p.columns)) (entries_bare p (length p.columns)) (marked_before p (length p.columns)) false))
+      (lead_each (length p.columns) (column_lines p) (λ j. in_columns p j (marked_before p j) (entries_told p j)) column_read)
+      (turn_read p (length p.columns) (entries_told p (length p.columns)) (entries_bare p (length p.columns)) (marked_before p (length p.columns)) false))

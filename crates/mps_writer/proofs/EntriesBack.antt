@@ -1,12 +1,12 @@
 -- The entries that the columns of a program's text tell, by names.
-use Rattle.std.specs.Prelude.{◌≡◌, ◌≢◌, ◌<◌, ◌≤◌, ◌+◌, ◌&&◌, ℕ, zero, suc, Bool, true, false, List, [], ◌∷◌, ◌++◌, map, length, Option, Some, None, unwrap_or, if◌then◌else◌}
-use Rattle.std.proofs.Common.{arith, refl, sym, ap, subst, ◌∙◌, inl, inr}
+use Rattle.std.specs.Prelude.{◌≡◌, ◌≢◌, ◌<◌, ◌&&◌, ℕ, zero, suc, Bool, true, false, List, [], ◌∷◌, ◌++◌, map, length, Option, Some, None, unwrap_or, if◌then◌else◌}
+use Rattle.std.proofs.Common.{arith, refl, sym, ap, ◌∙◌}
 use Rattle.std.specs.Str.{bytes_eq}
 use Rattle.rational.specs.Rational.{ℚ, zero_ℚ}
 use Rattle.program_law.specs.Tests.{is_zero}
 use Rattle.program_law.specs.Program.{Program, IsProgram}
 use Rattle.program_law.specs.Vectors.{at, row_at}
-use Rattle.mps_grammar.specs.Told.{Telling, is_told}
+use Rattle.mps_grammar.specs.Told.{Telling}
 use Rattle.mps_grammar.specs.Programs.{value_at, value_told, or_other}
 use Rattle.mps_writer.specs.Canonical.{row_name, column_name}
 use Rattle.mps_writer.proofs.Erased.{bare}
@@ -49,7 +49,7 @@ other_column : (p : Program) (j n : ℕ) (c r : List ℕ) → c ≢ column_name 
 other_column p j n c r other =
     value-append (each_back n (entry_told p j)) (telling (column_name p j) p.objective (at p.costs j) ∷ []) c r
     ∙ rw (value_nowhere n (entry_told p j) c r (λ i lt. value_elsewhere (column_name p j) (row_name p i) c r (at (row_at p.entries i) j) (column_differs c (column_name p j) r (row_name p i) other)))
-      (one_elsewhere (column_name p j) p.objective c r (at p.costs j) (column_differs c (column_name p j) r p.objective other))
+    (one_elsewhere (column_name p j) p.objective c r (at p.costs j) (column_differs c (column_name p j) r p.objective other))
 
 module _ (p : Program) (good : IsProgram p) where
   -- nothing of a column before its lines
@@ -63,10 +63,12 @@ module _ (p : Program) (good : IsProgram p) where
       → value_at (each_back i (entry_told p j) ++ telling (column_name p j) p.objective (at p.costs j) ∷ entries_told p j) (column_name p j) (row_name p i) ≡ None
   before_entry j i jt it =
       value-append (each_back i (entry_told p j)) (telling (column_name p j) p.objective (at p.costs j) ∷ entries_told p j) (column_name p j) (row_name p i)
-      ∙ rw (value_nowhere i (entry_told p j) (column_name p j) (row_name p i) (λ k less. value_elsewhere (column_name p j) (row_name p k) (column_name p j) (row_name p i) (at (row_at p.entries k) j)
-             (row_differs (column_name p j) (column_name p j) (row_name p i) (row_name p k) (rows_differ p good i k it (omega (arith, less)) (λ e. omega (arith, less)))))
-         , row_differs (column_name p j) (column_name p j) (row_name p i) p.objective (λ e. objective_differs p good i it (sym e)))
-        (before_column j (row_name p i) jt)
+      ∙ rw (
+        value_nowhere i (entry_told p j) (column_name p j) (row_name p i) (λ k less. value_elsewhere (column_name p j) (row_name p k) (column_name p j) (row_name p i) (at (row_at p.entries k) j)
+            (row_differs (column_name p j) (column_name p j) (row_name p i) (row_name p k) (rows_differ p good i k it (omega (arith, less)) (λ e. omega (arith, less))))),
+        row_differs (column_name p j) (column_name p j) (row_name p i) p.objective (λ e. objective_differs p good i it (sym e)),
+      )
+      (before_column j (row_name p i) jt)
 
   -- all of a column is found among its own tellings
   found_column : (j : ℕ) (r : List ℕ) → j < length p.columns → value_at (entries_told p (length p.columns)) (column_name p j) r ≡ value_at (column_told p j (length p.rows)) (column_name p j) r
@@ -77,22 +79,22 @@ module _ (p : Program) (good : IsProgram p) where
   pub found_entry : (j i : ℕ) → j < length p.columns → i < length p.rows → value_told (entries_told p (length p.columns)) (column_name p j) (row_name p i) ≡ at (row_at p.entries i) j
   found_entry j i jt it =
       let cost : value_at (telling (column_name p j) p.objective (at p.costs j) ∷ []) (column_name p j) (row_name p i) ≡ None =
-        one_elsewhere (column_name p j) p.objective (column_name p j) (row_name p i) (at p.costs j) (row_differs (column_name p j) (column_name p j) (row_name p i) p.objective (λ e. objective_differs p good i it (sym e))) in
+      one_elsewhere (column_name p j) p.objective (column_name p j) (row_name p i) (at p.costs j) (row_differs (column_name p j) (column_name p j) (row_name p i) p.objective (λ e. objective_differs p good i it (sym e))) in
       let rest : value_at (column_told p j (length p.rows)) (column_name p j) (row_name p i) ≡ value_at (entry_told p j i) (column_name p j) (row_name p i) =
-        value-append (each_back (length p.rows) (entry_told p j)) (telling (column_name p j) p.objective (at p.costs j) ∷ []) (column_name p j) (row_name p i)
-        ∙ ap (λ (o : Option ℚ). or_other (value_at (each_back (length p.rows) (entry_told p j)) (column_name p j) (row_name p i)) o) cost
-        ∙ or_none (value_at (each_back (length p.rows) (entry_told p j)) (column_name p j) (row_name p i))
-        ∙ value_somewhere (length p.rows) (entry_told p j) (column_name p j) (row_name p i) i it
-          (λ k less other. value_elsewhere (column_name p j) (row_name p k) (column_name p j) (row_name p i) (at (row_at p.entries k) j)
-             (row_differs (column_name p j) (column_name p j) (row_name p i) (row_name p k) (rows_differ p good i k it less (λ e. other (sym e))))) in
+      value-append (each_back (length p.rows) (entry_told p j)) (telling (column_name p j) p.objective (at p.costs j) ∷ []) (column_name p j) (row_name p i)
+      ∙ ap (λ (o : Option ℚ). or_other (value_at (each_back (length p.rows) (entry_told p j)) (column_name p j) (row_name p i)) o) cost
+      ∙ or_none (value_at (each_back (length p.rows) (entry_told p j)) (column_name p j) (row_name p i))
+      ∙ value_somewhere (length p.rows) (entry_told p j) (column_name p j) (row_name p i) i it
+      (λ k less other. value_elsewhere (column_name p j) (row_name p k) (column_name p j) (row_name p i) (at (row_at p.entries k) j)
+      (row_differs (column_name p j) (column_name p j) (row_name p i) (row_name p k) (rows_differ p good i k it less (λ e. other (sym e))))) in
       ap (λ (o : Option ℚ). unwrap_or o zero_ℚ) (found_column j (row_name p i) jt ∙ rest) ∙ value_here (column_name p j) (row_name p i) (at (row_at p.entries i) j)
 
   pub found_cost : (j : ℕ) → j < length p.columns → value_told (entries_told p (length p.columns)) (column_name p j) p.objective ≡ at p.costs j
   found_cost j jt =
       let rest : value_at (column_told p j (length p.rows)) (column_name p j) p.objective ≡ Some (at p.costs j) =
-        value-append (each_back (length p.rows) (entry_told p j)) (telling (column_name p j) p.objective (at p.costs j) ∷ []) (column_name p j) p.objective
-        ∙ rw (value_nowhere (length p.rows) (entry_told p j) (column_name p j) p.objective
-          (λ k less. value_elsewhere (column_name p j) (row_name p k) (column_name p j) p.objective (at (row_at p.entries k) j)
-             (row_differs (column_name p j) (column_name p j) p.objective (row_name p k) (objective_differs p good k less))))
-          (one_here (column_name p j) p.objective (at p.costs j)) in
+      value-append (each_back (length p.rows) (entry_told p j)) (telling (column_name p j) p.objective (at p.costs j) ∷ []) (column_name p j) p.objective
+      ∙ rw (value_nowhere (length p.rows) (entry_told p j) (column_name p j) p.objective
+      (λ k less. value_elsewhere (column_name p j) (row_name p k) (column_name p j) p.objective (at (row_at p.entries k) j)
+      (row_differs (column_name p j) (column_name p j) p.objective (row_name p k) (objective_differs p good k less))))
+      (one_here (column_name p j) p.objective (at p.costs j)) in
       ap (λ (o : Option ℚ). unwrap_or o zero_ℚ) (found_column j p.objective jt ∙ rest)

@@ -1,9 +1,7 @@
 -- What lines tell without their numbers. Neither a line's fault nor the program depends on these.
-use Rattle.std.specs.Prelude.{◌≡◌, ℕ, ◌+◌, ◌&&◌, ◌||◌, not, Bool, true, false, List, [], ◌∷◌, ◌++◌, map, Option, Some, None, Result, Ok, Err, option_to_list, is_none, unwrap_or, if◌then◌else◌, nat_le, nat_lt, length, is_some, ◌==◌}
+use Rattle.std.specs.Prelude.{◌≡◌, ℕ, ◌+◌, ◌&&◌, ◌||◌, not, Bool, true, false, List, [], ◌∷◌, map, Option, Some, None, Result, if◌then◌else◌}
 use Rattle.std.proofs.Common.{refl, sym, ap, ◌∙◌}
 use Rattle.std.proofs.Math.Path.{fun_ext}
-use Rattle.std.specs.List.{list_any}
-use Rattle.std.specs.Str.{bytes_eq}
 use Rattle.rational.specs.Rational.{ℚ}
 use Rattle.mps_tokens.specs.FieldsOf.{fields_of}
 use Rattle.mps_tokens.specs.Cases.{named}
@@ -16,12 +14,11 @@ use Rattle.mps_tokens.specs.declared.words.Section.TheVariants as sections
 use Rattle.mps_tokens.specs.declared.words.RowKind.{RowKind}
 use Rattle.mps_tokens.specs.declared.words.BoundKind.{BoundKind}
 use Rattle.mps_grammar.specs.declared.kinds.FaultKind.TheVariants as kinds
-use Rattle.program_law.specs.Places.{place_of}
 use Rattle.mps_grammar.specs.Lines.{field, is_comment, is_passed, is_indented}
-use Rattle.mps_grammar.specs.Fields.{Pair, Entries, is_marker, begins_stretch, entries_in, column_entries_in, sides_in, bound_in, bound_kind_in, bounded_in, has_number, row_kind_in, row_name_in, Bounded}
-use Rattle.mps_grammar.specs.Told.{Told, Telling, value_or_zero, is_at, is_told, is_used, names_of, with_pairs, with_entries, with_sides, quadratic_number}
-use Rattle.mps_grammar.specs.Faults.{Tests, first_of, gives_twice, counts_row, entry_tests, marker_tests, header_tests, row_tests, named_row_tests, bounded_tests, bound_tests, column_tests, is_beyond, is_plain, side_tests, is_given_pair, any_pair, pair_tests, data_tests, section_tests, content_tests, shown_tests, line_tests, line_fault}
-use Rattle.mps_grammar.specs.After.{told_more, told_within, told_header, told_content, told_shown, counted, told_after}
+use Rattle.mps_grammar.specs.Fields.{Pair, Entries, is_marker, entries_in, column_entries_in, sides_in, bound_kind_in, bounded_in, has_number, row_kind_in, row_name_in, Bounded}
+use Rattle.mps_grammar.specs.Told.{Told, Telling, value_or_zero, is_at, is_told, is_used, with_pairs, with_entries, with_sides, quadratic_number}
+use Rattle.mps_grammar.specs.Faults.{Tests, first_of, gives_twice, counts_row, entry_tests, marker_tests, header_tests, row_tests, named_row_tests, bounded_tests, bound_tests, is_beyond, is_plain, side_tests, is_given_pair, any_pair, pair_tests, data_tests, section_tests, content_tests, line_fault}
+use Rattle.mps_grammar.specs.After.{told_more, told_within, told_header, told_content, told_after}
 
 abbrev pub bare : Telling → Telling
 bare t = record t { line = 0 }
@@ -169,7 +166,6 @@ module _ (told : Told) where
 
   d : map bare (map bare told.pairs) ≡ map bare told.pairs
   d = bare_twice told.pairs
-
 
   quadratic : (s : Section) (fields : List (List ℕ)) → map bare (with_entries (quadratic_number s) (0 + 1) (entries_in fields) (map bare told.pairs)) ≡ map bare (with_entries (quadratic_number s) (told.lines + 1) (entries_in fields) told.pairs)
   quadratic s fields = sym (entries_bare (quadratic_number s) (told.lines + 1) (0 + 1) (entries_in fields) told.pairs)

@@ -1,27 +1,25 @@
 -- Fields of printable bytes, and the lines that they make.
-use Rattle.std.specs.Prelude.{◌≡◌, ◌==◌, ◌&&◌, ◌||◌, nat_le, not, ℕ, ℤ, pos, negsuc, unsigned_abs, zero, suc, ◌+◌, ◌-◌, ◌<◌, ◌≤◌, ◌^◌, Bool, true, false, List, [], ◌∷◌, ◌++◌, length, slice_index, All, if◌then◌else◌}
-use Rattle.std.proofs.Common.{arith, refl, sym, ap, subst, ◌∙◌, get_or, append_assoc}
-use Rattle.std.specs.List.{list_all, flat_map, AllByRecursion}
+use Rattle.std.specs.Prelude.{◌≡◌, ◌==◌, ◌&&◌, nat_le, not, ℕ, ℤ, pos, negsuc, unsigned_abs, zero, suc, ◌-◌, ◌<◌, ◌≤◌, Bool, true, false, List, [], ◌∷◌, ◌++◌, length, slice_index, All, if◌then◌else◌}
+use Rattle.std.proofs.Common.{arith, refl, ◌∙◌, get_or}
+use Rattle.std.specs.List.{list_all, AllByRecursion}
 use Rattle.std.specs.Fmt.{decimal, signed_decimal}
 use Rattle.std.specs.Str.Parse.{AllDigits}
 use Rattle.std.specs.Int.{IsInRange}
 use Rattle.std.proofs.lemmas.Str.Parse.{digit_from_value}
 use Rattle.std.proofs.lemmas.List.{length-append}
 use Rattle.std.proofs.lemmas.List.Folds.{list_all-append}
-use Rattle.std.proofs.lemmas.List.Elements.{All-head, All-tail}
 use Rattle.std.proofs.lemmas.Bool.Decides.{nat_tests}
-use Rattle.std.proofs.lemmas.Bool.{cases_Bool}
 use Rattle.rational.specs.Rational.{ℚ, Fits}
 use Rattle.frac_core.specs.Parts.{max_part}
 use Rattle.frac_core.specs.Text.{text_of}
 use Rattle.program_law.specs.Program.{IsName}
-use Rattle.mps_tokens.specs.Lines.{is_line_feed, without_return}
-use Rattle.mps_tokens.specs.FieldsOf.{is_blank, is_filled, fields_of}
-use Rattle.mps_tokens.specs.Written.{spaced, IsLine, IsField}
+use Rattle.mps_tokens.specs.Lines.{is_line_feed}
+use Rattle.mps_tokens.specs.FieldsOf.{is_blank, fields_of}
+use Rattle.mps_tokens.specs.Written.{IsLine, IsField}
 use Rattle.mps_tokens.proofs.Joined.{fields_joined}
 use Rattle.mps_grammar.specs.Faults.{is_plain_byte, is_plain}
 use Rattle.mps_writer.specs.Lines.{data_line}
-use Rattle.mps_writer.proofs.Numerals.{IsDigits, written}
+use Rattle.mps_writer.proofs.Numerals.{written}
 
 -- a byte that is neither a blank nor a control
 abbrev is_dark : ℕ → Bool

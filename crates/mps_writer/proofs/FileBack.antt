@@ -1,18 +1,18 @@
 -- A program's text is read back as the program.
-use Rattle.std.specs.Prelude.{◌≡◌, ◌≢◌, ◌<◌, ◌≤◌, ◌+◌, ◌-◌, ◌*◌, ◌==◌, ◌&&◌, ◌||◌, not, min, nat_lt, ℕ, zero, suc, Bool, true, false, List, [], ◌∷◌, ◌++◌, map, length, IsTrue, Option, Some, None, IfSome, Result, Ok, Err, unwrap_or, codes, if◌then◌else◌}
+use Rattle.std.specs.Prelude.{◌≡◌, ◌≢◌, ◌<◌, ◌≤◌, ◌+◌, ◌||◌, not, min, ℕ, zero, suc, Bool, true, false, List, [], ◌∷◌, ◌++◌, map, length, Option, Some, None, IfSome, Result, Ok, unwrap_or, codes, if◌then◌else◌}
 use Rattle.std.proofs.Common.{arith, refl, sym, ap, subst, append_assoc, ◌∙◌, inl, inr}
-use Rattle.std.specs.List.{list_any, flat_map, slice_split, AllByRecursion}
+use Rattle.std.specs.List.{list_any, slice_split, AllByRecursion}
 use Rattle.std.specs.Str.{bytes_eq}
-use Rattle.std.proofs.lemmas.List.{append-nil, length-append}
+use Rattle.std.proofs.lemmas.List.{length-append}
 use Rattle.std.proofs.lemmas.Bool.{cases_lt}
 use Rattle.std.proofs.lemmas.List.Concat.{flat_map-cons}
 use Rattle.std.proofs.lemmas.List.Splits.{slice_split_at}
-use Rattle.rational.specs.Rational.{ℚ, Fits, fits, zero_ℚ, ◌+ℚ◌, ◌-ℚ◌}
+use Rattle.rational.specs.Rational.{ℚ, Fits, fits, zero_ℚ, ◌-ℚ◌}
 use Rattle.rational.specs.Order.{same_fields}
 use Rattle.rational.proofs.Fits.{fits_yes}
 use Rattle.frac_core.specs.Parts.{max_part}
 use Rattle.program_law.specs.Program.{Program, IsProgram, IsRow}
-use Rattle.mps_tokens.specs.Lines.{is_line_feed, without_empty_last, without_return, raw_lines}
+use Rattle.mps_tokens.specs.Lines.{is_line_feed, without_empty_last, raw_lines}
 use Rattle.mps_tokens.specs.Written.{ended, IsLine}
 use Rattle.mps_tokens.proofs.FirstLine.{keeps_first, split_has_first}
 use Rattle.mps_tokens.specs.Cases.{named}
@@ -20,20 +20,19 @@ use Rattle.mps_tokens.specs.declared.words.Section.{Section}
 use Rattle.mps_tokens.specs.declared.words.Section.TheVariants as sections
 use Rattle.mps_tokens.specs.declared.words.RowKind.{RowKind}
 use Rattle.mps_tokens.specs.declared.words.RowKind.TheVariants as row_kinds
-use Rattle.mps_grammar.specs.declared.kinds.FaultKind.TheVariants as kinds
-use Rattle.mps_grammar.specs.Told.{Told, Telling, BoundTelling, told_by, is_columns}
+use Rattle.mps_grammar.specs.Told.{Told, Telling, told_by, is_columns}
 use Rattle.mps_grammar.specs.Faults.{first_of, reach, header_tests, line_fault}
-use Rattle.mps_grammar.specs.Verdict.{Fault, ends, unless, verdict, verdict_of}
-use Rattle.mps_grammar.specs.Programs.{value_at, value_told, or_other, range_side, makes_past, is_range_past, is_quadobj, gives_pairs_once, pair_value, program_of, end_fault}
-use Rattle.mps_grammar.specs.Reading.{Spot, behind, told_verdict, told_of, finished, read_told, read_of}
-use Rattle.mps_writer.specs.Lines.{each, data_line, lines_text, has_lines}
+use Rattle.mps_grammar.specs.Verdict.{Fault, verdict, verdict_of}
+use Rattle.mps_grammar.specs.Programs.{value_at, value_told, or_other, range_side, makes_past, is_quadobj, gives_pairs_once, program_of, end_fault}
+use Rattle.mps_grammar.specs.Reading.{Spot, behind, told_verdict, finished, read_told, read_of}
+use Rattle.mps_writer.specs.Lines.{each, lines_text, has_lines}
 use Rattle.mps_writer.specs.Small.{HasSmallNumbers}
 use Rattle.mps_writer.specs.Canonical.{row_name, sides_at, right_side, width, side_lines, constant_lines, range_lines, bound_lines, column_name, bounds_at, row_pair_lines, rows_lines, columns_lines, right_sides_lines, ranges_lines, bounds_lines, pairs_lines, program_lines, text_of_program}
 use Rattle.mps_grammar.proofs.After.{told_line}
 use Rattle.mps_writer.proofs.Fields.{plain_line}
 use Rattle.mps_writer.proofs.Erased.{bare, erase, fault_bare, after_bare}
 use Rattle.mps_writer.proofs.Bared.{NonePast, program_bare, no_end_fault}
-use Rattle.mps_writer.proofs.Lookups.{each_back, telling, other_bytes, same_bytes}
+use Rattle.mps_writer.proofs.Lookups.{each_back, other_bytes, same_bytes}
 use Rattle.mps_writer.proofs.Names.{rows_differ, objective_differs}
 use Rattle.mps_writer.proofs.Runs.{Lead, lead_on, next, header_told, are_lines, bytes_of, onto, IsLed, led}
 use Rattle.mps_writer.proofs.RowsBack.{rows_read}
@@ -44,7 +43,7 @@ use Rattle.mps_writer.proofs.RangesBack.{ranges_read, ranges_bare, row_is_good}
 use Rattle.mps_writer.proofs.BoundsBack.{bounds_read}
 use Rattle.mps_writer.proofs.PairsBack.{pairs_read, all_pairs_bare, no_pairs_told}
 use Rattle.mps_writer.proofs.ProgramBack.{range_reaches, program_made}
-use Rattle.mps_writer.proofs.Stages.{nothing_told, kind_of, kind_at, told_rows, entries_told, with_section, range_told, sides_told, ranges_told, bounds_told, pairs_told, behind_columns, first_sections}
+use Rattle.mps_writer.proofs.Stages.{nothing_told, kind_of, kind_at, told_rows, with_section, range_told, sides_told, ranges_told, bounds_told, pairs_told, behind_columns, first_sections}
 
 regroup : (a b c d e f g : List (List ℕ)) → a ++ (b ++ (c ++ (d ++ (e ++ (f ++ g))))) ≡ (a ++ (b ++ (c ++ (d ++ (e ++ f))))) ++ g
 regroup a b c d e f g = simp append_assoc
@@ -96,8 +95,8 @@ named_somewhere (suc n) f g j lt h =
     ∙ elim (cases_lt j n) [
       | inl below ↦ rw (named_somewhere n f g j below (λ i less other. h i (omega (arith, less)) other)) refl
       | inr above ↦
-        let last : j ≡ n = omega arith in
-        rw (named_nowhere n f g (f j) (λ i less. h i (omega (arith, less)) (λ e. omega arith)), last, same_bytes (f n)) refl
+          let last : j ≡ n = omega arith in
+          rw (named_nowhere n f g (f j) (λ i less. h i (omega (arith, less)) (λ e. omega arith)), last, same_bytes (f n)) refl
     ]
 
 -- ---- the side that a range makes fits
@@ -189,8 +188,8 @@ module _ (p : Program) where
         (lead_on _ _ _ (right_sides_lines p) (ranges_lines p ++ (bounds_lines p ++ pairs_lines p)) (right_sides_read p good small)
         (lead_on _ _ _ (ranges_lines p) (bounds_lines p ++ pairs_lines p) (ranges_read p good small has_sides (sides_told p (length p.rows)) (sides_bare p good small (length p.rows)))
         (lead_on _ _ _ (bounds_lines p) (pairs_lines p)
-          (bounds_read p good small has_sides (sides_told p (length p.rows)) (sides_bare p good small (length p.rows)) has_ranges (ranges_told p (length p.rows)) (ranges_bare p good small (length p.rows)))
-          (pairs_read p good small has_sides (sides_told p (length p.rows)) (sides_bare p good small (length p.rows)) has_ranges (ranges_told p (length p.rows)) (ranges_bare p good small (length p.rows)) has_bounds (bounds_told p (length p.columns)))))))
+        (bounds_read p good small has_sides (sides_told p (length p.rows)) (sides_bare p good small (length p.rows)) has_ranges (ranges_told p (length p.rows)) (ranges_bare p good small (length p.rows)))
+        (pairs_read p good small has_sides (sides_told p (length p.rows)) (sides_bare p good small (length p.rows)) has_ranges (ranges_told p (length p.rows)) (ranges_bare p good small (length p.rows)) has_bounds (bounds_told p (length p.columns)))))))
 
     -- the last line is taken, too
     other_sections : List Section
@@ -202,13 +201,14 @@ module _ (p : Program) where
 
     end_told : ((at : ℕ) → at + length (codes "ENDATA") ≤ reach → line_fault (last_told all_sections) at (codes "ENDATA") ≡ None) × (next (last_told all_sections) (codes "ENDATA") ≡ last_told (sections.EndData ∷ all_sections))
     end_told =
-        let t = header_told (last_told all_sections) (codes "ENDATA") sections.EndData refl refl refl refl refl refl (end_clean (last_told all_sections) columns_begun) in
-        (t.0,
-         t.1
-         ∙ ap (λ (es : List Telling). record (last_told (sections.EndData ∷ all_sections)) { entries = es; sides = map bare (sides_told p (length p.rows)); ranges = map bare (ranges_told p (length p.rows)); pairs = map bare (pairs_told p (length p.columns)) }) (entries_bare p (length p.columns))
-         ∙ ap (λ (ts : List Telling). record (last_told (sections.EndData ∷ all_sections)) { sides = ts; ranges = map bare (ranges_told p (length p.rows)); pairs = map bare (pairs_told p (length p.columns)) }) (sides_bare p good small (length p.rows))
-         ∙ ap (λ (ts : List Telling). record (last_told (sections.EndData ∷ all_sections)) { ranges = ts; pairs = map bare (pairs_told p (length p.columns)) }) (ranges_bare p good small (length p.rows))
-         ∙ ap (λ (ts : List Telling). record (last_told (sections.EndData ∷ all_sections)) { pairs = ts }) (all_pairs_bare p (length p.columns)))
+        let t = header_told (last_told all_sections) (codes "ENDATA") sections.EndData refl refl refl refl refl refl (end_clean (last_told all_sections) columns_begun) in (
+          t.0,
+          t.1
+              ∙ ap (λ (es : List Telling). record (last_told (sections.EndData ∷ all_sections)) { entries = es; sides = map bare (sides_told p (length p.rows)); ranges = map bare (ranges_told p (length p.rows)); pairs = map bare (pairs_told p (length p.columns)) }) (entries_bare p (length p.columns))
+              ∙ ap (λ (ts : List Telling). record (last_told (sections.EndData ∷ all_sections)) { sides = ts; ranges = map bare (ranges_told p (length p.rows)); pairs = map bare (pairs_told p (length p.columns)) }) (sides_bare p good small (length p.rows))
+              ∙ ap (λ (ts : List Telling). record (last_told (sections.EndData ∷ all_sections)) { ranges = ts; pairs = map bare (pairs_told p (length p.columns)) }) (ranges_bare p good small (length p.rows))
+              ∙ ap (λ (ts : List Telling). record (last_told (sections.EndData ∷ all_sections)) { pairs = ts }) (all_pairs_bare p (length p.columns)),
+        )
 
     once : gives_pairs_once (last_told (sections.EndData ∷ all_sections)) ≡ has_pairs
     once = once_or_not has_pairs _ (no_quadobj has_bounds sections.Bounds _ refl (no_quadobj has_ranges sections.Ranges _ refl (no_quadobj has_sides sections.Rhs first_sections refl refl)))
@@ -228,11 +228,12 @@ module _ (p : Program) where
 
     range_fits : (i : ℕ) → i < length p.rows → (w : Option ℚ) → width (sides_at p i).low (sides_at p i).high ≡ w → NonePast (last_told (sections.EndData ∷ all_sections)) (range_told (row_name p i) w)
     range_fits i lt None e = tt
-    range_fits i lt (Some w) e =
-        (ap (λ (k : Option RowKind). makes_past k (value_told (sides_told p (length p.rows)) [] (row_name p i)) w) (kind_found i lt)
-         ∙ ap (λ (v : ℚ). makes_past (Some (kind_at p i)) v w) (found_side p good small i lt)
-         ∙ none_past (sides_at p i).low (sides_at p i).high w (row_is_good p good small i lt) (small.sides i).high e,
-         tt)
+    range_fits i lt (Some w) e = (
+      ap (λ (k : Option RowKind). makes_past k (value_told (sides_told p (length p.rows)) [] (row_name p i)) w) (kind_found i lt)
+          ∙ ap (λ (v : ℚ). makes_past (Some (kind_at p i)) v w) (found_side p good small i lt)
+          ∙ none_past (sides_at p i).low (sides_at p i).high w (row_is_good p good small i lt) (small.sides i).high e,
+      tt,
+    )
 
     ranges_fit : NonePast (last_told (sections.EndData ∷ all_sections)) (ranges_told p (length p.rows))
     ranges_fit = past_each (last_told (sections.EndData ∷ all_sections)) (length p.rows) (λ i. range_told (row_name p i) (width (sides_at p i).low (sides_at p i).high)) (λ i lt. range_fits i lt _ refl)

@@ -20,3 +20,4 @@ pub mod PairsBack
 pub mod ProgramBack
 pub mod Bared
 pub mod FileBack
+pub mod SmallNumbers

@@ -1,7 +1,6 @@
 -- Lines that are put one after another.
 use Rattle.std.specs.Prelude.{◌≡◌, ℕ, suc, ◌+◌, ◌||◌, Bool, true, false, List, [], ◌∷◌, ◌++◌}
 use Rattle.std.proofs.Common.{arith, refl, sym, ap, subst, ◌∙◌, append_assoc}
-use Rattle.std.specs.List.{flat_map}
 use Rattle.std.proofs.lemmas.List.{append-nil}
 use Rattle.std.proofs.lemmas.List.Concat.{flat_map-append}
 use Rattle.mps_tokens.specs.Written.{ended}
@@ -34,10 +33,11 @@ pub section_more : (word : List ℕ) (first : List (List ℕ)) (n : ℕ) (f : �
     → new ≡ before ++ lines_text (behind begun word (f n)) → then ≡ (begun || has_lines (f n))
     → (new ≡ old ++ lines_text (section word (first ++ each (n + 1) f))) × (then ≡ has_lines (first ++ each (n + 1) f))
 section_more word first n f old before new begun then is e t =
-    let split : first ++ each (n + 1) f ≡ (first ++ each n f) ++ f n = rw (each_more n f) (sym (append_assoc first (each n f) (f n))) in
-    (rw (split, section_append word (first ++ each n f) (f n), flat_map-append ended (section word (first ++ each n f)) (behind (has_lines (first ++ each n f)) word (f n)), ← is.1)
-        (e ∙ ap (λ (text : List ℕ). text ++ lines_text (behind begun word (f n))) is.0 ∙ append_assoc old (lines_text (section word (first ++ each n f))) (lines_text (behind begun word (f n)))),
-     rw (split, has_append (first ++ each n f) (f n), ← is.1) t)
+    let split : first ++ each (n + 1) f ≡ (first ++ each n f) ++ f n = rw (each_more n f) (sym (append_assoc first (each n f) (f n))) in (
+      rw (split, section_append word (first ++ each n f) (f n), flat_map-append ended (section word (first ++ each n f)) (behind (has_lines (first ++ each n f)) word (f n)), ← is.1)
+          (e ∙ ap (λ (text : List ℕ). text ++ lines_text (behind begun word (f n))) is.0 ∙ append_assoc old (lines_text (section word (first ++ each n f))) (lines_text (behind begun word (f n)))),
+      rw (split, has_append (first ++ each n f) (f n), ← is.1) t,
+    )
 
 -- lines behind a section's word and its other lines
 pub lines_last : (word old middle new : List ℕ) (xs ys : List (List ℕ)) → middle ≡ (old ++ ended word) ++ lines_text xs → new ≡ middle ++ lines_text ys → new ≡ old ++ lines_text (word ∷ (xs ++ ys))
@@ -57,10 +57,11 @@ pub behind_more : (word : List ℕ) (first : Bool) (n : ℕ) (f : ℕ → List (
     → (before ≡ old ++ lines_text (behind first word (each n f))) × (begun ≡ (first || has_lines (each n f)))
     → new ≡ before ++ lines_text (behind begun word (f n)) → then ≡ (begun || has_lines (f n))
     → (new ≡ old ++ lines_text (behind first word (each (n + 1) f))) × (then ≡ (first || has_lines (each (n + 1) f)))
-behind_more word first n f old before new begun then is e t =
-    (rw (each_more n f, behind_append first word (each n f) (f n), flat_map-append ended (behind first word (each n f)) (behind (first || has_lines (each n f)) word (f n)), ← is.1)
-        (e ∙ ap (λ (text : List ℕ). text ++ lines_text (behind begun word (f n))) is.0 ∙ append_assoc old (lines_text (behind first word (each n f))) (lines_text (behind begun word (f n)))),
-     rw (each_more n f, has_append (each n f) (f n), ← or_assoc first (has_lines (each n f)) (has_lines (f n)), ← is.1) t)
+behind_more word first n f old before new begun then is e t = (
+  rw (each_more n f, behind_append first word (each n f) (f n), flat_map-append ended (behind first word (each n f)) (behind (first || has_lines (each n f)) word (f n)), ← is.1)
+      (e ∙ ap (λ (text : List ℕ). text ++ lines_text (behind begun word (f n))) is.0 ∙ append_assoc old (lines_text (behind first word (each n f))) (lines_text (behind begun word (f n)))),
+  rw (each_more n f, has_append (each n f) (f n), ← or_assoc first (has_lines (each n f)) (has_lines (f n)), ← is.1) t,
+)
 
 -- all places
 pub all_behind : (word : List ℕ) (first : Bool) (n m : ℕ) (f : ℕ → List (List ℕ)) (old new : List ℕ) → n ≡ m

@@ -1,7 +1,6 @@
 -- What is found under a name: among names, and among tellings.
-use Rattle.std.specs.Prelude.{◌≡◌, ◌≢◌, ◌==◌, ◌&&◌, ◌||◌, ℕ, zero, suc, ◌+◌, ◌<◌, ◌≤◌, Bool, true, false, List, [], ◌∷◌, ◌++◌, map, filter, length, Option, Some, None, is_some, is_none, unwrap_or, slice_index_or, if◌then◌else◌}
-use Rattle.std.proofs.Common.{arith, refl, sym, ap, subst, append_assoc, ◌∙◌, inl, inr}
-use Rattle.std.specs.List.{list_any}
+use Rattle.std.specs.Prelude.{◌≡◌, ◌≢◌, ◌&&◌, ◌||◌, ℕ, zero, suc, ◌<◌, Bool, true, false, List, [], ◌∷◌, ◌++◌, map, length, Option, Some, None, is_some, unwrap_or, slice_index_or, if◌then◌else◌}
+use Rattle.std.proofs.Common.{arith, refl, sym, ap, append_assoc, ◌∙◌, inl, inr}
 use Rattle.std.specs.Option.{option_map}
 use Rattle.std.specs.Str.{bytes_eq}
 use Rattle.std.proofs.lemmas.List.{append-nil, length-append}
@@ -11,7 +10,7 @@ use Rattle.rational.specs.Rational.{ℚ, zero_ℚ}
 use Rattle.program_law.specs.Tests.{is_zero}
 use Rattle.program_law.proofs.Numbers.{zero_is}
 use Rattle.program_law.specs.Places.{place_of}
-use Rattle.mps_grammar.specs.Told.{Telling, is_at, is_told, names_of}
+use Rattle.mps_grammar.specs.Told.{Telling, is_at, is_told}
 use Rattle.mps_grammar.specs.Programs.{or_other, value_at}
 use Rattle.mps_writer.specs.Lines.{each}
 
@@ -160,8 +159,8 @@ value_somewhere (suc n) f column row j lt h =
     ∙ elim (cases_lt j n) [
       | inl below ↦ rw (h n (omega arith) (λ e. omega arith)) (value_somewhere n f column row j below (λ i less other. h i (omega (arith, less)) other))
       | inr above ↦
-        let last : j ≡ n = omega arith in
-        rw (value_nowhere n f column row (λ i less. h i (omega (arith, less)) (λ e. omega arith)), last) (or_none (value_at (f n) column row))
+          let last : j ≡ n = omega arith in
+          rw (value_nowhere n f column row (λ i less. h i (omega (arith, less)) (λ e. omega arith)), last) (or_none (value_at (f n) column row))
     ]
 
 -- a number's telling, unless it is 0

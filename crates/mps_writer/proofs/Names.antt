@@ -1,10 +1,10 @@
 -- The names of a program.
-use Rattle.std.specs.Prelude.{◌≡◌, ◌≢◌, ◌<◌, ◌≤◌, ◌+◌, nat_lt, nat_le, ℕ, zero, suc, Bool, true, false, List, [], ◌∷◌, ◌++◌, map, length, All, AllPairs, slice_index_or}
-use Rattle.std.proofs.Common.{arith, refl, sym, ap, subst, ◌∙◌, inl, inr}
+use Rattle.std.specs.Prelude.{◌≡◌, ◌≢◌, ◌<◌, ◌≤◌, nat_lt, ℕ, suc, false, List, [], ◌∷◌, map, length}
+use Rattle.std.proofs.Common.{arith, refl, sym, ap, inl, inr}
 use Rattle.std.specs.Str.{bytes_eq}
 use Rattle.std.proofs.lemmas.Bool.{cases_lt}
 use Rattle.std.proofs.lemmas.Bool.Decides.{nat_tests}
-use Rattle.program_law.specs.Program.{Program, IsProgram, IsName, row_names, column_names, marker}
+use Rattle.program_law.specs.Program.{Program, IsProgram, IsName, marker}
 use Rattle.mps_grammar.specs.Faults.{is_long}
 use Rattle.mps_writer.specs.Canonical.{row_name, column_name}
 use Rattle.mps_writer.proofs.Fields.{IsWord, name_word}

@@ -1,7 +1,7 @@
 -- What is written of a number is read back: digits, by themselves or beside a slash, behind a sign or not.
-use Rattle.std.specs.Prelude.{◌≡◌, ◌≢◌, ◌==◌, ◌&&◌, nat_lt, not, ℕ, zero, suc, ℤ, pos, negsuc, unsigned_abs, ◌+◌, ◌*◌, ◌/◌, ◌%◌, ◌^◌, ◌<◌, ◌≤◌, Bool, true, false, List, [], ◌∷◌, ◌++◌, length, take, drop, Ok, Err, slice_index, if◌then◌else◌}
-use Rattle.std.proofs.Common.{arith, refl, sym, ap, subst, ◌∙◌, get_or, lit<, lit≤, inl, inr}
-use Rattle.std.specs.List.{list_all, list_any, position_or_len, before_first, after_first}
+use Rattle.std.specs.Prelude.{◌≡◌, ◌≢◌, ◌==◌, nat_lt, ℕ, zero, suc, ℤ, pos, negsuc, unsigned_abs, ◌+◌, ◌*◌, ◌/◌, ◌%◌, ◌^◌, ◌<◌, ◌≤◌, Bool, true, false, List, [], ◌∷◌, ◌++◌, length, take, drop, Ok, slice_index, if◌then◌else◌}
+use Rattle.std.proofs.Common.{arith, refl, sym, ap, subst, ◌∙◌, get_or}
+use Rattle.std.specs.List.{list_all, position_or_len}
 use Rattle.std.specs.Char.{is_ascii_digit}
 use Rattle.std.specs.Fmt.{decimal, signed_decimal}
 use Rattle.std.specs.Str.Parse.{AllDigits, digits_value}
@@ -10,7 +10,6 @@ use Rattle.std.proofs.lemmas.Fmt.{decimal_is_IsNumeral_wide}
 use Rattle.std.proofs.lemmas.Str.Parse.{digit_at, digit_from_value}
 use Rattle.std.proofs.lemmas.List.{append-nil, length-append, drop_all, get_or_append_left}
 use Rattle.std.proofs.Math.Seq.{get_or-append_seam, take-append_seam, drop-append-add, take-length}
-use Rattle.std.proofs.Math.Nat.{zero-div}
 use Rattle.rational.proofs.Reciprocals.{fraction_one}
 use Rattle.std.proofs.lemmas.List.Sums.{position_or_len_is}
 use Rattle.std.proofs.lemmas.Bool.{ne_eqb}
@@ -20,7 +19,7 @@ use Rattle.rational.specs.Rational.{ℚ, Fits, fraction, fraction_parts, zero_�
 use Rattle.frac_core.specs.Parts.{max_part}
 use Rattle.frac_core.specs.Signed.{signed}
 use Rattle.mps_tokens.specs.Spelling.{is_numeral, is_sign, is_negative, without_sign, is_slash, is_point, is_mark, without_point, places_of, is_fraction}
-use Rattle.mps_tokens.specs.Numbers.{fitted, decimal_of, decimal_value, fraction_of, fraction_value, number_of}
+use Rattle.mps_tokens.specs.Numbers.{fitted, decimal_of, decimal_value, fraction_value, number_of}
 use Rattle.mps_tokens.specs.Running.{IsShort}
 use Rattle.mps_tokens.proofs.Tens.{zero_more}
 use Rattle.mps_tokens.proofs.NumberParts.{numeral_yes, unmarked, slashed, unslashed}
@@ -165,7 +164,7 @@ slashed_number bytes top bottom negative p q n r t b tv bv ps qs some =
     let long : length (top ++ 47 ∷ bottom) ≡ length top + length (47 ∷ bottom) = length-append top (47 ∷ bottom) in
     let known : is_fraction top bottom ≡ true = both_numerals top bottom t b (λ e. omega arith) in
     sym (slashed bytes (top ++ 47 ∷ bottom) top bottom negative (length top) (sym n) (sym r) (sym (slash_place top bottom t)) (λ e. omega arith) (omega arith)
-        (sym (take-append_seam top (47 ∷ bottom))) (sym (drop-append-add top (47 ∷ bottom) 1)))
+    (sym (take-append_seam top (47 ∷ bottom))) (sym (drop-append-add top (47 ∷ bottom) 1)))
     ∙ rw (known, tv, bv) (small_value negative p q ps qs)
 
 -- ---- what is written

@@ -1,7 +1,6 @@
 -- A program's parts found by their places.
-use Rattle.std.specs.Prelude.{◌≡◌, ℕ, zero, suc, Bool, false, List, [], ◌∷◌, map, Some, None, slice_index_or, slice_get}
-use Rattle.std.proofs.Common.{refl, ap, sym, ◌∙◌}
-use Rattle.program_law.specs.declared.Row.{Row}
+use Rattle.std.specs.Prelude.{◌≡◌, ℕ, zero, suc, false, List, [], ◌∷◌, map, Some, slice_index_or, slice_get}
+use Rattle.std.proofs.Common.{ap, sym}
 use Rattle.program_law.specs.declared.Column.{Column}
 use Rattle.program_law.specs.Program.{bounds_of}
 use Rattle.program_model.specs.Named.{names_of, things_of}

@@ -1,34 +1,27 @@
 -- What a program's text tells stands for that program.
-use Rattle.std.specs.Prelude.{◌≡◌, ◌≢◌, ◌<◌, ◌≤◌, ◌+◌, ◌-◌, ◌&&◌, ◌||◌, ◌⊎◌, not, ℕ, zero, suc, ℤ, pos, Bool, true, false, List, [], ◌∷◌, ◌++◌, map, length, slice_index_or, All, Option, Some, None, IfSome, is_some, IsSome, unwrap_or, codes, if◌then◌else◌}
-use Rattle.std.proofs.Common.{IsTrue, arith, refl, sym, ap, subst, append_assoc, ◌∙◌, inl, inr}
-use Rattle.std.proofs.Math.Path.{fun_ext}
-use Rattle.std.specs.List.{list_any, AllByRecursion}
-use Rattle.std.specs.Str.{bytes_eq}
-use Rattle.std.proofs.lemmas.Bool.{cases_Bool, cases_lt}
-use Rattle.rational.specs.Rational.{ℚ, Fits, fits, zero_ℚ, neg_ℚ, ◌+ℚ◌, ◌-ℚ◌, whole}
+use Rattle.std.specs.Prelude.{◌≡◌, ◌<◌, ◌⊎◌, ℕ, zero, suc, pos, Bool, true, false, List, [], ◌∷◌, map, length, slice_index_or, Option, Some, None, IsSome, unwrap_or, if◌then◌else◌}
+use Rattle.std.proofs.Common.{arith, refl, sym, ap, ◌∙◌, inl, inr}
+use Rattle.std.proofs.lemmas.Bool.{cases_Bool}
+use Rattle.rational.specs.Rational.{ℚ, zero_ℚ, neg_ℚ, ◌+ℚ◌, ◌-ℚ◌, whole}
 use Rattle.rational.specs.Order.{same_fields, same_fields_lem, ◌≤ℚ◌}
 use Rattle.rational.proofs.Field.{rationals, +ℚ_assoc, +ℚ_comm, +ℚ_neg, +ℚ_zero}
 use Rattle.rational.proofs.OrderLaws.{sub_nonneg, not-le_of_lt}
-use Rattle.rational.proofs.Fits.{fits_yes}
 use Rattle.algebra.proofs.Ring as laws
-use Rattle.frac_core.specs.Parts.{max_part}
 use Rattle.program_law.specs.declared.Row.{Row}
 use Rattle.program_law.specs.declared.Column.{Column}
-use Rattle.program_law.specs.Tests.{is_zero, is_negative}
+use Rattle.program_law.specs.Tests.{is_negative}
 use Rattle.program_law.proofs.Numbers.{negative_below}
 use Rattle.program_law.specs.Program.{Program, IsProgram, IsRow, bounds_of}
 use Rattle.program_law.specs.Vectors.{at, row_at}
-use Rattle.mps_tokens.specs.Cases.{named}
 use Rattle.mps_tokens.specs.declared.words.Section.{Section}
-use Rattle.mps_tokens.specs.declared.words.Section.TheVariants as sections
 use Rattle.mps_tokens.specs.declared.words.RowKind.{RowKind}
 use Rattle.mps_tokens.specs.declared.words.RowKind.TheVariants as row_kinds
-use Rattle.mps_grammar.specs.Told.{Told, Telling, BoundTelling, names_of, program_rows, objective_in}
-use Rattle.mps_grammar.specs.Programs.{value_at, value_told, or_other, size, range_side, sides_of, row_of, bounds_for, bounded, column_of, is_quadobj, gives_pairs_once, pair_value, objective_of, numbers_of, program_of}
-use Rattle.mps_writer.specs.Lines.{each, has_lines}
-use Rattle.mps_writer.specs.Small.{HasSmallNumbers, HasSmallSides}
-use Rattle.mps_writer.specs.Canonical.{row_name, column_name, no_sides, sides_at, bounds_at, is_marked, right_side, width, side_lines, constant_lines, range_lines, bound_lines, row_pair_lines}
-use Rattle.mps_writer.proofs.Lookups.{each_back, map-each, list_by_place, or_none}
+use Rattle.mps_grammar.specs.Told.{Told, BoundTelling, names_of, program_rows}
+use Rattle.mps_grammar.specs.Programs.{value_at, value_told, or_other, size, sides_of, row_of, bounded, column_of, pair_value, numbers_of, program_of}
+use Rattle.mps_writer.specs.Lines.{each}
+use Rattle.mps_writer.specs.Small.{HasSmallNumbers}
+use Rattle.mps_writer.specs.Canonical.{row_name, column_name, no_sides, sides_at, bounds_at, is_marked, right_side, width}
+use Rattle.mps_writer.proofs.Lookups.{map-each, list_by_place}
 use Rattle.mps_writer.proofs.Names.{length-map}
 use Rattle.mps_writer.proofs.RowsBack.{binding_rows}
 use Rattle.mps_writer.proofs.ColumnsBack.{columns_named}
@@ -36,8 +29,8 @@ use Rattle.mps_writer.proofs.EntriesBack.{found_entry, found_cost}
 use Rattle.mps_writer.proofs.SidesBack.{found_side, found_constant}
 use Rattle.mps_writer.proofs.RangesBack.{found_range}
 use Rattle.mps_writer.proofs.BoundsBack.{bounds_made, found_bounds}
-use Rattle.mps_writer.proofs.PairsBack.{found_pair, no_pairs_told}
-use Rattle.mps_writer.proofs.Stages.{kind_of, kind_at, told_rows, told_columns, entries_told, with_section, sides_told, ranges_told, bounds_told, pairs_told, behind_columns, first_sections}
+use Rattle.mps_writer.proofs.PairsBack.{found_pair}
+use Rattle.mps_writer.proofs.Stages.{kind_of, kind_at, entries_told, sides_told, ranges_told, bounds_told, pairs_told, behind_columns}
 
 -- ---- a row's sides
 
@@ -144,8 +137,8 @@ module _ (p : Program) (good : IsProgram p) (small : HasSmallNumbers p) (ss : Li
       ap (λ (rs : List (List ℕ × RowKind)). map (λ (r : List ℕ × RowKind). numbers_of told r.0) rs) (binding_rows p good (length p.rows))
       ∙ map-each (λ (r : List ℕ × RowKind). numbers_of told r.0) (length p.rows) (λ i. (row_name p i, kind_at p i) ∷ [])
       ∙ list_by_place p.entries (length p.rows) (λ i. numbers_of told (row_name p i)) [] (sym good.height)
-        (λ i lt. by_columns (λ column. value_told (entries_told p (length p.columns)) column (row_name p i)) (row_at p.entries i) (sym (good.width i [] (omega (arith, good.height))))
-          (λ j jt. found_entry p good j i jt lt))
+      (λ i lt. by_columns (λ column. value_told (entries_told p (length p.columns)) column (row_name p i)) (row_at p.entries i) (sym (good.width i [] (omega (arith, good.height))))
+      (λ j jt. found_entry p good j i jt lt))
 
   costs_made : numbers_of told p.objective ≡ p.costs
   costs_made = by_columns (λ column. value_told (entries_told p (length p.columns)) column p.objective) p.costs (sym good.costs_width) (λ j jt. found_cost p good j jt)
@@ -159,8 +152,8 @@ module _ (p : Program) (good : IsProgram p) (small : HasSmallNumbers p) (ss : Li
       ap (λ (names : List (List ℕ)). map (λ (one : List ℕ). map (λ (other : List ℕ). pair_value told one other) (names_of told.columns)) names) names_made
       ∙ map-each (λ (one : List ℕ). map (λ (other : List ℕ). pair_value told one other) (names_of told.columns)) (length p.columns) (λ j. column_name p j ∷ [])
       ∙ list_by_place p.pairs (length p.columns) (λ j. map (λ (other : List ℕ). pair_value told (column_name p j) other) (names_of told.columns)) [] (sym good.pairs_height)
-        (λ j jt. by_columns (λ other. pair_value told (column_name p j) other) (row_at p.pairs j) (sym (good.pairs_width j [] (omega (arith, good.pairs_height))))
-          (λ k kt. once (column_name p j) (column_name p k) ∙ found_pair p good j k jt kt))
+      (λ j jt. by_columns (λ other. pair_value told (column_name p j) other) (row_at p.pairs j) (sym (good.pairs_width j [] (omega (arith, good.pairs_height))))
+      (λ k kt. once (column_name p j) (column_name p k) ∙ found_pair p good j k jt kt))
 
   -- all parts are the program's
   pub program_made : ((one other : List ℕ) → pair_value told one other ≡ unwrap_or (or_other (value_at (pairs_told p (length p.columns)) one other) (value_at (pairs_told p (length p.columns)) other one)) zero_ℚ)

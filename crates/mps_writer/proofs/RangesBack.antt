@@ -1,14 +1,12 @@
 -- The ranges of a program's text are read back.
-use Rattle.std.specs.Prelude.{◌≡◌, ◌≢◌, ◌<◌, ◌≤◌, ◌+◌, ◌&&◌, ◌||◌, ℕ, zero, suc, Bool, true, false, List, [], ◌∷◌, ◌++◌, map, length, Option, Some, None, IfSome, codes, if◌then◌else◌}
-use Rattle.std.proofs.Common.{IsTrue, arith, refl, sym, ap, subst, append_assoc, ◌∙◌}
-use Rattle.std.specs.Str.{bytes_eq}
+use Rattle.std.specs.Prelude.{◌≡◌, ◌≢◌, ◌<◌, ◌||◌, ℕ, suc, Bool, true, false, List, [], ◌∷◌, ◌++◌, map, length, Option, Some, None, IfSome, codes, if◌then◌else◌}
+use Rattle.std.proofs.Common.{IsTrue, arith, refl, sym, ap, ◌∙◌}
 use Rattle.rational.specs.Rational.{ℚ, Fits, fits, ◌-ℚ◌}
 use Rattle.rational.specs.Order.{same_fields}
 use Rattle.frac_core.specs.Parts.{max_part}
 use Rattle.frac_core.specs.Text.{text_of}
 use Rattle.program_law.specs.declared.Row.{Row}
 use Rattle.program_law.specs.Program.{Program, IsProgram, IsRow}
-use Rattle.mps_tokens.specs.declared.words.Section.{Section}
 use Rattle.mps_tokens.specs.declared.words.Section.TheVariants as sections
 use Rattle.mps_grammar.specs.Told.{Told, Telling, first_named}
 use Rattle.mps_grammar.specs.Faults.{first_of, header_tests}
@@ -17,16 +15,16 @@ use Rattle.mps_writer.specs.Lines.{each, number_line, has_lines}
 use Rattle.mps_writer.specs.Small.{HasSmallNumbers}
 use Rattle.mps_writer.specs.Canonical.{row_name, sides_at, no_sides, width, range_lines, ranges_lines}
 use Rattle.mps_writer.proofs.Erased.{bare}
-use Rattle.mps_writer.proofs.Fields.{IsWord, number_word}
-use Rattle.mps_writer.proofs.Lookups.{each_back, telling, none_told, value_nowhere, value_somewhere, row_differs, same_bytes}
+use Rattle.mps_writer.proofs.Fields.{number_word}
+use Rattle.mps_writer.proofs.Lookups.{telling, none_told, value_nowhere, value_somewhere, row_differs, same_bytes}
 use Rattle.mps_writer.proofs.Names.{length-map, row_word, row_short, rows_differ}
 use Rattle.mps_writer.proofs.LineLemmas.{has_append}
-use Rattle.mps_writer.proofs.Runs.{Lead, lead_on, lead_to, lead_each, takes_data, takes_header}
+use Rattle.mps_writer.proofs.Runs.{Lead, lead_to, lead_each, takes_data, takes_header}
 use Rattle.mps_writer.proofs.ColumnsBack.{row_known}
 use Rattle.mps_writer.proofs.EntriesBack.{entries_bare, each_bare}
 use Rattle.mps_writer.proofs.SectionsBack.{section_read, nothing_each}
-use Rattle.mps_writer.proofs.SidesBack.{IsNextSide, side_none, set_told, named_set, or_false, or_true, fits_back, sides_bare}
-use Rattle.mps_writer.proofs.Stages.{entries_told, with_section, set_if, sides_told, range_told, ranges_told, behind_columns, first_sections}
+use Rattle.mps_writer.proofs.SidesBack.{IsNextSide, side_none, set_told, named_set, or_false, or_true, fits_back}
+use Rattle.mps_writer.proofs.Stages.{entries_told, with_section, set_if, range_told, ranges_told, behind_columns, first_sections}
 
 IsTrue-is : (b : Bool) → IsTrue b → b ≡ true
 IsTrue-is b h = h
@@ -102,12 +100,13 @@ module _ (p : Program) (good : IsProgram p) (small : HasSmallNumbers p) where
         → Lead (stage b ts) (number_line (codes "RNG" ∷ name ∷ []) q ∷ []) (stage true (telling [] name q ∷ ts))
     unfolding stage
     range_read b ts name q plain h =
-        let t = takes_data (stage b ts) sections.Ranges (with_section a sections.Rhs first_sections) (codes "RNG") (name ∷ text_of q ∷ []) refl (record { word = refl }, (h.name_word, (number_word q h.small, tt))) (side_none (stage b ts) (set_if b (codes "RNG")) ts (codes "RNG") name q refl h) in
-        (t.0,
-         t.1
-         ∙ ap (λ (us : List Telling). record (stage false us) { range_set = first_named (set_if b (codes "RNG")) (Some (codes "RNG")); entries = map bare (entries_told p (length p.columns)); sides = map bare sides }) (set_told b (codes "RNG") name q ts h.small plain)
-         ∙ plain_stage (first_named (set_if b (codes "RNG")) (Some (codes "RNG"))) (telling [] name q ∷ ts)
-         ∙ ap (λ (s : Option (List ℕ)). record (stage false (telling [] name q ∷ ts)) { range_set = s }) (named_set b (codes "RNG")))
+        let t = takes_data (stage b ts) sections.Ranges (with_section a sections.Rhs first_sections) (codes "RNG") (name ∷ text_of q ∷ []) refl (record { word = refl }, (h.name_word, (number_word q h.small, tt))) (side_none (stage b ts) (set_if b (codes "RNG")) ts (codes "RNG") name q refl h) in (
+          t.0,
+          t.1
+              ∙ ap (λ (us : List Telling). record (stage false us) { range_set = first_named (set_if b (codes "RNG")) (Some (codes "RNG")); entries = map bare (entries_told p (length p.columns)); sides = map bare sides }) (set_told b (codes "RNG") name q ts h.small plain)
+              ∙ plain_stage (first_named (set_if b (codes "RNG")) (Some (codes "RNG"))) (telling [] name q ∷ ts)
+              ∙ ap (λ (s : Option (List ℕ)). record (stage false (telling [] name q ∷ ts)) { range_set = s }) (named_set b (codes "RNG")),
+        )
 
     range_chosen : (b : Bool) (ts : List Telling) (name : List ℕ) (w : Option ℚ) → map bare ts ≡ ts → ((q : ℚ) → w ≡ Some q → IsNextSide (stage b ts) ts name q)
         → Lead (stage b ts) (range_lines name w) (stage (b || has_lines (range_lines name w)) (range_told name w ++ ts))
@@ -125,7 +124,7 @@ module _ (p : Program) (good : IsProgram p) (small : HasSmallNumbers p) where
         lead_to _ _ _ (range_lines (row_name p i) (width (sides_at p i).low (sides_at p i).high))
         (ap (λ (b : Bool). stage b (ranges_told p (suc i))) (sym (has_append (range_lines_to i) (range_lines (row_name p i) (width (sides_at p i).low (sides_at p i).high)))))
         (range_chosen (has_lines (range_lines_to i)) (ranges_told p i) (row_name p i) (width (sides_at p i).low (sides_at p i).high) (ranges_bare i)
-          (λ q is. record { name_word = row_word p good i lt; short_name = row_short p good i lt; known = row_known p good small i lt; small = some_width _ q is (width_is_small i lt); new = none_told (ranges_told p i) [] (row_name p i) (before_range i lt) }))
+        (λ q is. record { name_word = row_word p good i lt; short_name = row_short p good i lt; known = row_known p good small i lt; small = some_width _ q is (width_is_small i lt); new = none_told (ranges_told p i) [] (row_name p i) (before_range i lt) }))
 
     abbrev pub ranges_done : Bool → List Telling → Told
     ranges_done b ts = behind_columns p (with_section b sections.Ranges (with_section a sections.Rhs first_sections)) a sides b ts false [] []

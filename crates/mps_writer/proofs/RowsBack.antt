@@ -1,12 +1,11 @@
 -- The rows of a program's text are read back.
-use Rattle.std.specs.Prelude.{◌≡◌, ◌≢◌, ◌<◌, ◌≤◌, ◌+◌, ◌&&◌, nat_le, ℕ, zero, suc, Bool, true, false, List, [], ◌∷◌, ◌++◌, map, filter, length, Option, Some, None, is_some, option_to_list, codes, if◌then◌else◌}
-use Rattle.std.proofs.Common.{arith, refl, sym, ap, subst, ◌∙◌, inl, inr}
-use Rattle.std.specs.Str.{bytes_eq}
+use Rattle.std.specs.Prelude.{◌≡◌, ◌<◌, ◌&&◌, nat_le, ℕ, zero, suc, Bool, true, false, List, [], ◌∷◌, ◌++◌, length, Option, Some, None, is_some, option_to_list, codes, if◌then◌else◌}
+use Rattle.std.proofs.Common.{arith, refl, sym, ap, ◌∙◌}
 use Rattle.std.proofs.lemmas.List.Elements.{filter-append}
 use Rattle.std.proofs.lemmas.Bool.Decides.{nat_tests}
 use Rattle.rational.specs.Rational.{ℚ}
 use Rattle.rational.specs.Order.{same_fields}
-use Rattle.program_law.specs.Program.{Program, IsProgram, marker}
+use Rattle.program_law.specs.Program.{Program, IsProgram}
 use Rattle.program_law.specs.Places.{place_of}
 use Rattle.mps_tokens.specs.Cases.{named}
 use Rattle.mps_tokens.specs.Words.{row_kind_names}
@@ -14,16 +13,14 @@ use Rattle.mps_tokens.specs.declared.words.Section.TheVariants as sections
 use Rattle.mps_tokens.specs.declared.words.RowKind.{RowKind}
 use Rattle.mps_tokens.specs.declared.words.RowKind.TheVariants as row_kinds
 use Rattle.mps_grammar.specs.declared.kinds.FaultKind.TheVariants as kinds
-use Rattle.mps_grammar.specs.Told.{Told, names_of, row_told as row_of_line, binds, program_rows}
-use Rattle.mps_grammar.specs.Faults.{first_of, is_long, row_tests, data_tests}
-use Rattle.mps_grammar.specs.After.{told_more}
+use Rattle.mps_grammar.specs.Told.{names_of, row_told as row_of_line, binds, program_rows}
+use Rattle.mps_grammar.specs.Faults.{first_of, row_tests, data_tests}
 use Rattle.mps_writer.specs.Lines.{each, data_line}
 use Rattle.mps_writer.specs.Canonical.{row_name, sides_at, kind_word, row_line, rows_lines}
-use Rattle.mps_writer.proofs.Erased.{erase}
 use Rattle.mps_writer.proofs.Fields.{IsWord}
 use Rattle.mps_writer.proofs.Lookups.{map-each, length-each, known_cons, unknown_each, other_bytes}
 use Rattle.mps_writer.proofs.Names.{row_word, objective_word, row_short, objective_short, rows_differ, objective_differs, row_no_marker, objective_no_marker}
-use Rattle.mps_writer.proofs.Runs.{Lead, IsTaken, next, lead_on, lead_each, takes_data, takes_header}
+use Rattle.mps_writer.proofs.Runs.{Lead, lead_on, lead_each, takes_data, takes_header}
 use Rattle.mps_writer.proofs.Stages.{nothing_told, kind_of, kind_at, told_rows, in_rows}
 
 -- the word of a kind is a word, and names the kind
@@ -50,6 +47,7 @@ too_many kind n lt = by (binds kind) (below n lt)
   where
     below : (n : ℕ) → n < 128 → nat_le 128 n ≡ false
     below n lt = grind (arith, nat_tests)
+
     by : (b : Bool) → nat_le 128 n ≡ false → (b && nat_le 128 n) ≡ false
     by true e = e
     by false e = refl
@@ -89,7 +87,7 @@ module _ (p : Program) (good : IsProgram p) where
   objective_read : Lead (record nothing_told { sections = sections.Rows ∷ sections.Name ∷ [] }) (data_line (codes "N" ∷ p.objective ∷ []) ∷ []) (in_rows p 0)
   objective_read =
       let t = takes_data (record nothing_told { sections = sections.Rows ∷ sections.Name ∷ [] }) sections.Rows (sections.Name ∷ []) (codes "N") (p.objective ∷ []) refl (record { word = refl }, (objective_word p good, tt))
-              (four_none _ _ _ _ (objective_no_marker p good) (objective_short p good) refl refl) in
+      (four_none _ _ _ _ (objective_no_marker p good) (objective_short p good) refl refl) in
       t
 
   name_read : Lead nothing_told (codes "NAME" ∷ []) (record nothing_told { sections = sections.Name ∷ [] })

@@ -1,8 +1,7 @@
 -- Lines that are taken one after another.
-use Rattle.std.specs.Prelude.{◌≡◌, ℕ, zero, suc, ◌+◌, ◌<◌, ◌≤◌, ◌==◌, ◌&&◌, ◌||◌, not, nat_lt, Bool, true, false, List, [], ◌∷◌, ◌++◌, length, reverse, Option, Some, None, Result, Ok, Err, option_to_list, if◌then◌else◌}
-use Rattle.std.proofs.Common.{arith, refl, sym, ap, subst, ◌∙◌, append_assoc}
+use Rattle.std.specs.Prelude.{◌≡◌, ℕ, zero, suc, ◌+◌, ◌<◌, ◌≤◌, ◌==◌, ◌&&◌, ◌||◌, not, nat_lt, Bool, true, false, List, [], ◌∷◌, ◌++◌, length, Option, Some, None, if◌then◌else◌}
+use Rattle.std.proofs.Common.{arith, refl, sym, ap, subst, ◌∙◌}
 use Rattle.std.specs.List.{AllByRecursion}
-use Rattle.std.proofs.lemmas.List.{append-nil, length-append}
 use Rattle.std.proofs.lemmas.Bool.Decides.{nat_tests}
 use Rattle.mps_tokens.specs.FieldsOf.{fields_of}
 use Rattle.mps_tokens.specs.Cases.{named}
@@ -10,18 +9,16 @@ use Rattle.mps_tokens.specs.Words.{section_names}
 use Rattle.mps_tokens.specs.Lines.{without_return}
 use Rattle.mps_tokens.specs.Written.{IsLine}
 use Rattle.mps_tokens.specs.declared.words.Section.{Section}
-use Rattle.mps_tokens.specs.declared.words.Section.TheVariants as sections
-use Rattle.mps_grammar.specs.declared.kinds.FaultKind.{FaultKind}
 use Rattle.mps_grammar.specs.declared.kinds.FaultKind.TheVariants as kinds
 use Rattle.mps_grammar.specs.Lines.{field, is_comment, is_passed, is_indented, section_in}
 use Rattle.mps_grammar.specs.Told.{Told, told_by}
 use Rattle.mps_grammar.specs.Faults.{section_tests, Tests, first_of, is_beyond, is_plain, reach, data_tests, header_tests, content_tests, shown_tests, line_fault}
 use Rattle.mps_grammar.specs.After.{told_within, told_more, told_header, told_content, told_after}
 use Rattle.mps_grammar.proofs.After.{told_line}
-use Rattle.mps_grammar.specs.Verdict.{Fault, ends, is_end, unless, verdict}
+use Rattle.mps_grammar.specs.Verdict.{ends, is_end, verdict}
 use Rattle.mps_writer.specs.Lines.{data_line, each}
 use Rattle.mps_writer.proofs.Erased.{erase, fault_bare, after_bare}
-use Rattle.mps_writer.proofs.Fields.{IsWord, AreWords, fields_back, plain_back, plain_line}
+use Rattle.mps_writer.proofs.Fields.{AreWords, fields_back, plain_back, plain_line}
 
 -- what is told after a line, where the numbers of the lines are left out
 abbrev pub next : Told → List ℕ → Told
@@ -100,6 +97,7 @@ not_beyond at line h = rw (small (at + length line) h) (never (not (length line 
   where
     small : (n : ℕ) → n ≤ reach → nat_lt reach n ≡ false
     small n h = grind (arith, nat_tests)
+
     never : (b : Bool) → (b && false) ≡ false
     never true = refl
     never false = refl
@@ -154,14 +152,15 @@ takes_data told s ss f fs section words none =
     let one : IsLine (data_line (f ∷ fs)) = plain_line (data_line (f ∷ fs)) plain in
     let whole : without_return (data_line (f ∷ fs)) ≡ data_line (f ∷ fs) = rw one.no_return refl in
     let shown = shown_by (data_line (f ∷ fs)) (f ∷ fs) true whole plain refl refl fields (some_fields (length fs)) in
-    let content = data_content told (is_indented (data_line (f ∷ fs))) told.sections (fields_of (data_line (f ∷ fs))) (f ∷ fs) s ss (named section_names (field (fields_of (data_line (f ∷ fs))) 0)) refl section fields in
-    (record {
-       one = one;
-       whole = whole;
-       clean = λ at within. content_fault told at (data_line (f ∷ fs)) (f ∷ fs) true shown within (ap first_of content.0 ∙ none);
-       more = not_ended (is_passed (data_line (f ∷ fs))) (is_indented (data_line (f ∷ fs))) (named section_names (field (fields_of (data_line (f ∷ fs))) 0)) refl;
-     },
-     told_when told (told_content told (data_line (f ∷ fs))) (is_passed (data_line (f ∷ fs))) shown.passed ∙ ap erase content.1)
+    let content = data_content told (is_indented (data_line (f ∷ fs))) told.sections (fields_of (data_line (f ∷ fs))) (f ∷ fs) s ss (named section_names (field (fields_of (data_line (f ∷ fs))) 0)) refl section fields in (
+      record {
+        one = one;
+        whole = whole;
+        clean = λ at within. content_fault told at (data_line (f ∷ fs)) (f ∷ fs) true shown within (ap first_of content.0 ∙ none);
+        more = not_ended (is_passed (data_line (f ∷ fs))) (is_indented (data_line (f ∷ fs))) (named section_names (field (fields_of (data_line (f ∷ fs))) 0)) refl;
+      },
+      told_when told (told_content told (data_line (f ∷ fs))) (is_passed (data_line (f ∷ fs))) shown.passed ∙ ap erase content.1,
+    )
 
 -- a header has no fault
 pub header_told : (told : Told) (word : List ℕ) (s : Section) → without_return word ≡ word → is_plain word ≡ true → is_comment word ≡ false → is_indented word ≡ false → fields_of word ≡ word ∷ []
@@ -170,10 +169,11 @@ pub header_told : (told : Told) (word : List ℕ) (s : Section) → without_retu
 header_told told word s whole plain comment front fields section none =
     let shown = shown_by word (word ∷ []) false whole plain comment front fields (some_fields 0) in
     let name : named section_names (field (fields_of word) 0) ≡ Some s = ap (λ (fs : List (List ℕ)). named section_names (field fs 0)) fields ∙ section in
-    let content = header_content told (is_indented word) told.sections (fields_of word) (named section_names (field (fields_of word) 0)) s front name in
-    (λ at within. content_fault told at word (word ∷ []) false shown within (ap first_of content.0 ∙ none),
-     told_when told (told_content told word) (is_passed word) shown.passed ∙ ap erase content.1,
-     header_found (is_passed word) (is_indented word) (named section_names (field (fields_of word) 0)) shown.passed front ∙ name)
+    let content = header_content told (is_indented word) told.sections (fields_of word) (named section_names (field (fields_of word) 0)) s front name in (
+      λ at within. content_fault told at word (word ∷ []) false shown within (ap first_of content.0 ∙ none),
+      told_when told (told_content told word) (is_passed word) shown.passed ∙ ap erase content.1,
+      header_found (is_passed word) (is_indented word) (named section_names (field (fields_of word) 0)) shown.passed front ∙ name,
+    )
   where
     header_found : (p b : Bool) (h : Option Section) → p ≡ false → b ≡ false → (if (not p && not b) then h else None) ≡ h
     header_found p b h e f = rw (e, f) refl

@@ -1,9 +1,9 @@
 -- Sections that are left out where they have no line.
 use Rattle.std.specs.Prelude.{◌≡◌, ℕ, zero, suc, Bool, true, false, List, [], ◌∷◌, ◌++◌, if◌then◌else◌}
-use Rattle.std.proofs.Common.{refl, sym, ap, ◌∙◌}
+use Rattle.std.proofs.Common.{refl}
 use Rattle.rational.specs.Rational.{ℚ}
 use Rattle.program_law.specs.Tests.{is_zero}
-use Rattle.mps_grammar.specs.Told.{Told, Telling}
+use Rattle.mps_grammar.specs.Told.{Told}
 use Rattle.mps_writer.specs.Lines.{section, each, has_lines, unless_zero, number_line}
 use Rattle.mps_writer.proofs.Lookups.{each_back, telling, telling_unless_zero}
 use Rattle.mps_writer.proofs.Runs.{Lead, lead_on, lead_to}

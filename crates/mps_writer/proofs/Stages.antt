@@ -1,5 +1,5 @@
 -- What is told after each part of a program's text, without the numbers of the lines.
-use Rattle.std.specs.Prelude.{◌+◌, ◌-◌, ◌&&◌, not, ℕ, zero, suc, Bool, true, false, List, [], ◌∷◌, ◌++◌, length, Option, Some, None, codes, if◌then◌else◌}
+use Rattle.std.specs.Prelude.{◌+◌, ◌-◌, ◌&&◌, not, ℕ, Bool, true, false, List, [], ◌∷◌, ◌++◌, length, Option, Some, None, codes, if◌then◌else◌}
 use Rattle.rational.specs.Rational.{ℚ, zero_ℚ, neg_ℚ}
 use Rattle.program_law.specs.Tests.{is_zero, is_negative}
 use Rattle.rational.specs.Order.{same_fields}
@@ -13,13 +13,25 @@ use Rattle.mps_tokens.specs.declared.words.BoundKind.{BoundKind}
 use Rattle.mps_tokens.specs.declared.words.BoundKind.TheVariants as bound_kinds
 use Rattle.mps_grammar.specs.Told.{Told, Telling, BoundTelling}
 use Rattle.mps_writer.specs.Lines.{each}
-use Rattle.mps_writer.specs.Canonical.{row_name, column_name, sides_at, bounds_at, right_side, width, is_marked, marked_before}
+use Rattle.mps_writer.specs.Canonical.{row_name, column_name, sides_at, bounds_at, right_side, width, is_marked}
 use Rattle.mps_writer.proofs.Lookups.{each_back, telling, telling_unless_zero}
 
 abbrev pub nothing_told : Told
 nothing_told =
     record {
-      lines = 0; sections = []; rows = []; columns = []; begun = false; entries = []; side_set = None; sides = []; range_set = None; ranges = []; bound_set = None; bounds = []; pairs = [];
+      lines = 0;
+      sections = [];
+      rows = [];
+      columns = [];
+      begun = false;
+      entries = [];
+      side_set = None;
+      sides = [];
+      range_set = None;
+      ranges = [];
+      bound_set = None;
+      bounds = [];
+      pairs = [];
     }
 
 -- ---- ROWS

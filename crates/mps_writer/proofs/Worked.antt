@@ -1,5 +1,5 @@
 -- Texts of worked programs.
-use Rattle.std.specs.Prelude.{◌≡◌, ℕ, pos, neg_ℤ, List, [], ◌∷◌, Some, None, true, false, codes}
+use Rattle.std.specs.Prelude.{◌≡◌, ℕ, pos, neg_ℤ, [], ◌∷◌, Some, None, false, codes}
 use Rattle.std.proofs.Common.{refl}
 use Rattle.std.specs.Fmt.{digits}
 use Rattle.rational.specs.Divisors.{gcd_of}

@@ -81,12 +81,7 @@ fn push_both(
 }
 
 /// Puts the lines of a column that has no low bound last.
-fn push_lowless(
-    out: &mut Vec<u8>,
-    begun: bool,
-    name: &[u8],
-    high: Frac,
-) -> Result<bool, Memory>
+fn push_lowless(out: &mut Vec<u8>, begun: bool, name: &[u8], high: Frac) -> Result<bool, Memory>
     ensures ok { OnOk result (out.new.items ≡ out.old.items ++ lines_text (behind begun (codes "BOUNDS") (data_line (codes "MI" ∷ codes "BND" ∷ name.now ∷ []) ∷ bound_line (codes "UP") name.now high ∷ []))) }
     ensures begun { IfOk result (λ b. b ≡ true) }
 {
@@ -95,12 +90,7 @@ fn push_lowless(
 }
 
 /// Puts the lines of a column's bounds last, and answers whether the section is begun.
-fn push_bounds_of(
-    out: &mut Vec<u8>,
-    begun: bool,
-    name: &[u8],
-    bounds: Row,
-) -> Result<bool, Memory>
+fn push_bounds_of(out: &mut Vec<u8>, begun: bool, name: &[u8], bounds: Row) -> Result<bool, Memory>
     ensures ok { OnOk result (out.new.items ≡ out.old.items ++ lines_text (behind begun (codes "BOUNDS") (bound_lines name.now bounds.low bounds.high))) }
     ensures begun { IfOk result (λ b. b ≡ (begun || has_lines (bound_lines name.now bounds.low bounds.high))) }
 {

@@ -10,6 +10,7 @@ mod pairs;
 mod parts;
 mod rows;
 mod sides;
+mod small;
 mod writing;
 
 pub use laws::{numbers_are_read_back, text_is_read_back};

@@ -10,13 +10,7 @@ use frac_core::Memory;
 use program_model::Program;
 
 /// Puts the line of an entry of Q last, unless it is 0, and answers whether the section is begun.
-fn push_pair(
-    p: &Program,
-    j: u32,
-    k: u32,
-    out: &mut Vec<u8>,
-    begun: bool,
-) -> Result<bool, Memory>
+fn push_pair(p: &Program, j: u32, k: u32, out: &mut Vec<u8>, begun: bool) -> Result<bool, Memory>
     requires j { j < length p.now.columns }
     requires k { k < length p.now.columns }
     ensures ok { OnOk result (out.new.items ≡ out.old.items ++ lines_text (behind begun (codes "QUADOBJ") (pair_lines p.now j k))) }
@@ -35,12 +29,7 @@ fn push_pair(
 }
 
 /// Puts the lines of a row of Q last, from the diagonal on, and answers whether the section is begun.
-fn push_row_pairs(
-    p: &Program,
-    j: u32,
-    out: &mut Vec<u8>,
-    mut begun: bool,
-) -> Result<bool, Memory>
+fn push_row_pairs(p: &Program, j: u32, out: &mut Vec<u8>, mut begun: bool) -> Result<bool, Memory>
     requires { j < length p.now.columns }
     ensures ok { OnOk result (out.new.items ≡ out.old.items ++ lines_text (behind begun (codes "QUADOBJ") (row_pair_lines p.now j))) }
     ensures begun { IfOk result (λ b. b ≡ (begun || has_lines (row_pair_lines p.now j))) }

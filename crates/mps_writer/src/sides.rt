@@ -24,23 +24,14 @@ fn right_side(sides: Row) -> Frac
 }
 
 /// Puts the line of a right side last, unless it is 0, and answers whether the section is begun.
-fn push_right_side(
-    out: &mut Vec<u8>,
-    begun: bool,
-    name: &[u8],
-    value: Frac,
-) -> Result<bool, Memory>
+fn push_right_side(out: &mut Vec<u8>, begun: bool, name: &[u8], value: Frac) -> Result<bool, Memory>
     ensures ok { OnOk result (out.new.items ≡ out.old.items ++ lines_text (behind begun (codes "RHS") (unless_zero (codes "RHS" ∷ name.now ∷ []) value))) }
     ensures begun { IfOk result (λ b. b ≡ (begun || has_lines (unless_zero (codes "RHS" ∷ name.now ∷ []) value))) }
 {
     if is_zero(value) {
         return Ok(begun);
     }
-    let fields = [
-        Field::Word(b"RHS"),
-        Field::Word(name),
-        Field::Number(value),
-    ];
+    let fields = [Field::Word(b"RHS"), Field::Word(name), Field::Number(value)];
     push_in_section(out, begun, b"RHS", &fields)
 }
 
@@ -82,11 +73,7 @@ fn push_range(
     let Some(width) = width else {
         return Ok(begun);
     };
-    let fields = [
-        Field::Word(b"RNG"),
-        Field::Word(name),
-        Field::Number(width),
-    ];
+    let fields = [Field::Word(b"RNG"), Field::Word(name), Field::Number(width)];
     push_in_section(out, begun, b"RANGES", &fields)
 }
 

@@ -24,7 +24,13 @@ fn start(alloc: Global, objective: &[u8]) -> Result<Program, Memory> {
     Program::start(alloc, name)
 }
 
-fn add_row(p: &mut Program, alloc: Global, name: &[u8], low: Option<Frac>, high: Option<Frac>) -> bool {
+fn add_row(
+    p: &mut Program,
+    alloc: Global,
+    name: &[u8],
+    low: Option<Frac>,
+    high: Option<Frac>,
+) -> bool {
     let Ok(name) = Name::of(alloc, name) else {
         return false;
     };
@@ -90,7 +96,8 @@ fn a_range_and_a_triangle(rt: HostRuntime) -> Result<(), Fail> {
     }
     set_pair(&mut p, 1, 0, number(1, 1));
     set_cost(&mut p, 0, number(1, 1));
-    let text = b"NAME\nROWS\n N obj\n G e1\nCOLUMNS\n x obj 1\n x e1 1\n y obj 0\n y e1 1\nRHS\n RHS e1 3\nRANGES\n RNG e1 2\nBOUNDS\n MI BND y\n UP BND y -1\nQUADOBJ\n x x 2\n x y 1\n y y 2\nENDATA\n";
+    let text =
+        b"NAME\nROWS\n N obj\n G e1\nCOLUMNS\n x obj 1\n x e1 1\n y obj 0\n y e1 1\nRHS\n RHS e1 3\nRANGES\n RNG e1 2\nBOUNDS\n MI BND y\n UP BND y -1\nQUADOBJ\n x x 2\n x y 1\n y y 2\nENDATA\n";
     assert!(rt; added && has_text(alloc, &p, text));
     Ok(())
 }
@@ -112,7 +119,8 @@ fn names_and_bounds(rt: HostRuntime) -> Result<(), Fail> {
     if let Some(constant) = number(-3, 2) {
         p.set_constant(constant);
     }
-    let text = b"NAME\nROWS\n N *a\n L 'INTORG'\n E ENDATA\nCOLUMNS\n MARKER 'MARKER' 'INTORG'\n RHS *a 0\n RHS 'INTORG' -1/3\n 'MARKER' *a 2\n MARKER 'MARKER' 'INTEND'\n N *a 0\n BND *a 0\nRHS\n RHS *a 3/2\n RHS ENDATA 2/3\nBOUNDS\n LO BND RHS 0\n UP BND RHS -1\n LO BND 'MARKER' 3\n UP BND 'MARKER' 2\n FR BND N\n FX BND BND 1/2\nQUADOBJ\n 'MARKER' N -1\nENDATA\n";
+    let text =
+        b"NAME\nROWS\n N *a\n L 'INTORG'\n E ENDATA\nCOLUMNS\n MARKER 'MARKER' 'INTORG'\n RHS *a 0\n RHS 'INTORG' -1/3\n 'MARKER' *a 2\n MARKER 'MARKER' 'INTEND'\n N *a 0\n BND *a 0\nRHS\n RHS *a 3/2\n RHS ENDATA 2/3\nBOUNDS\n LO BND RHS 0\n UP BND RHS -1\n LO BND 'MARKER' 3\n UP BND 'MARKER' 2\n FR BND N\n FX BND BND 1/2\nQUADOBJ\n 'MARKER' N -1\nENDATA\n";
     assert!(rt; added && has_text(alloc, &p, text));
     Ok(())
 }
@@ -123,7 +131,8 @@ fn a_marked_column_alone(rt: HostRuntime) -> Result<(), Fail> {
     let alloc = rt.alloc();
     let mut p = start(alloc, b"obj")?;
     let added = add_column(&mut p, alloc, b"x", number(0, 1), None, true);
-    let text = b"NAME\nROWS\n N obj\nCOLUMNS\n MARKER 'MARKER' 'INTORG'\n x obj 0\n MARKER 'MARKER' 'INTEND'\nENDATA\n";
+    let text =
+        b"NAME\nROWS\n N obj\nCOLUMNS\n MARKER 'MARKER' 'INTORG'\n x obj 0\n MARKER 'MARKER' 'INTEND'\nENDATA\n";
     assert!(rt; added && has_text(alloc, &p, text));
     Ok(())
 }

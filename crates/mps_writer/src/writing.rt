@@ -2,6 +2,7 @@
 
 ghost use Rattle.std.specs.Prelude.{◌≡◌, ◌++◌, OnOk, OnErr};
 ghost use Rattle.mps_writer.specs.Lines.{lines_text};
+ghost use Rattle.mps_writer.specs.Back.{IsReadBack};
 ghost use Rattle.mps_writer.specs.Canonical.{text_of_program};
 
 use crate::bounds::push_bounds;
@@ -10,6 +11,7 @@ use crate::lines::push_word;
 use crate::pairs::push_pairs;
 use crate::rows::push_rows;
 use crate::sides::{push_ranges, push_right_sides};
+use crate::small::read_back;
 use frac_core::Memory;
 use program_model::Program;
 use std::alloc::Global;
@@ -36,7 +38,10 @@ fn push_program(p: &Program, out: &mut Vec<u8>) -> Result<(), Memory>
 pub fn write(alloc: Global, p: &Program, out: &mut Vec<u8>) -> Result<(), Memory>
     ensures ok { OnOk result (out.new.items ≡ out.old.items ++ text_of_program p.now) }
     ensures err { OnErr result (out.new.items ≡ out.old.items) }
+    // The text alone is read as the program.
+    ensures read { IsReadBack p.now }
 {
+    read_back(p);
     let mut text = Vec::new(alloc);
     push_program(p, &mut text)?;
     out.extend_from_slice(&text)?;

@@ -1,4 +1,4 @@
-use Rattle.std.proofs.Common.{arith, ◌≡◌, ◌<◌, ◌+◌, ◌-◌, ◌/◌, ◌^◌, ◌≤◌}
+use Rattle.std.proofs.Common.{arith, ◌≡◌, ◌+◌, ◌-◌}
 use Rattle.mps_writer.proofs.DigitLemmas.{fewer_digits, last_digit, first_digit}
 use Rattle.mps_writer.proofs.numbers.put_digits.Goals as goal
 
