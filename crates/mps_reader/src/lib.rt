@@ -1,0 +1,5 @@
+//! Reads the program that a program file stands for.
+#![tactic(auto)]
+
+mod columns;
+mod sides;
