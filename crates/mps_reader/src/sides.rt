@@ -1,8 +1,10 @@
 // The sides of rows.
 
-ghost use Rattle.std.specs.Prelude.{◌≡◌, Some};
+ghost use Rattle.std.specs.Prelude.{◌≡◌, Some, true, IfSome};
 ghost use Rattle.frac_core.specs.Parts.{max_part};
 ghost use Rattle.rational.specs.Rational.{◌+ℚ◌, ◌-ℚ◌, held};
+ghost use Rattle.program_law.specs.Program.{IsRow};
+ghost use Rattle.mps_grammar.specs.Told.{binds};
 ghost use Rattle.mps_grammar.specs.Programs.{size, range_side, plain_sides, ranged_sides, makes_past};
 ghost use Rattle.mps_reader.specs.Ranged.{sides_if_held};
 
@@ -109,13 +111,18 @@ fn sides_beside(kind: RowKind, right: Frac, range: Frac, side: Frac) -> Row
 
 /// The sides of a row, where they fit.
 pub(crate) fn sides(kind: RowKind, right: Frac, range: Option<Frac>) -> Option<Row>
-    ensures { result ≡ sides_if_held kind right range }
+    ensures sides { result ≡ sides_if_held kind right range }
+    ensures good { binds kind ≡ true → IfSome result (λ row. IsRow row) }
 {
     let Some(range) = range else {
-        return Some(plain_sides(kind, right));
+        let row = plain_sides(kind, right);
+        return Some(row);
     };
     let Some(side) = range_side(kind, right, range) else {
         return None;
     };
-    Some(sides_beside(kind, right, range, side))
+    let _num = range.num();
+    let _den = range.den();
+    let row = sides_beside(kind, right, range, side);
+    Some(row)
 }
