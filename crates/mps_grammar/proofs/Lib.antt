@@ -1,1 +1,2 @@
+pub mod After
 mod Examples

@@ -2,6 +2,7 @@ pub mod Words
 pub mod Lines
 pub mod Fields
 pub mod Told
+pub mod After
 pub mod Faults
 pub mod Verdict
 pub mod Programs

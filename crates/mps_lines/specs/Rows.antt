@@ -1,0 +1,31 @@
+-- The rows as they are kept.
+use Rattle.std.specs.Prelude.{◌≡◌, ℕ, ◌≤◌, List, [], map, length, slice_get, Option, Some, None, is_some}
+use Rattle.mps_tokens.specs.declared.words.RowKind.{RowKind}
+use Rattle.program_law.specs.Places.{place_of}
+use Rattle.mps_grammar.specs.Told.{names_of, program_rows, objective_in, used_names}
+use Rattle.mps_lines.specs.declared.rows.RowUse.{RowUse}
+use Rattle.mps_lines.specs.declared.rows.Rows.TheInside.{Inside}
+use Rattle.mps_lines.specs.Named.{things_of}
+use Rattle.mps_lines.specs.Names.{Differ}
+
+abbrev pub with_kind : List ℕ × RowUse → List ℕ × RowKind
+with_kind row = (row.0, row.1.kind)
+
+abbrev pub kinds_of : List (List ℕ × RowUse) → List (List ℕ × RowKind)
+kinds_of rows = map with_kind rows
+
+-- the rows with their kinds
+abbrev pub kinds_in : Inside → List (List ℕ × RowKind)
+kinds_in rows = kinds_of rows.named
+
+-- each row has its place among the objective and the rows of the program
+abbrev pub ArePlaced : List (List ℕ × RowUse) → Type 0
+ArePlaced rows = (i : ℕ) (row : List ℕ × RowUse) → slice_get rows i ≡ Some row → row.1.place ≡ place_of (used_names (kinds_of rows)) row.0
+
+pub record IsRows (rows : Inside) : Type 0 where
+  pub differ : Differ (names_of rows.named)
+  pub filled : place_of (names_of rows.named) [] ≡ None
+  pub bound : rows.bound ≡ length (program_rows (kinds_in rows))
+  pub few : rows.bound ≤ 128
+  pub objective : rows.objective ≡ is_some (objective_in (kinds_in rows))
+  pub placed : ArePlaced rows.named

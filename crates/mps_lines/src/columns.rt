@@ -1,0 +1,116 @@
+// Lines of COLUMNS.
+
+ghost use Rattle.std.specs.Prelude.{◌≡◌, ◌+◌, ◌<◌, ◌^◌, true, false, None};
+ghost use Rattle.program_law.specs.Places.{place_of};
+ghost use Rattle.mps_tokens.specs.declared.words.Section.TheVariants as sections;
+ghost use Rattle.mps_grammar.specs.Fields.{is_marker};
+ghost use Rattle.mps_grammar.specs.Told.{names_of};
+ghost use Rattle.mps_grammar.specs.Faults.{is_wrong_stretch};
+ghost use Rattle.mps_lines.specs.Notes.{IsSound};
+ghost use Rattle.mps_lines.specs.Steps.{TakesData, PlacesColumn};
+
+use crate::entries::{gives_twice, put_items, row_places};
+use crate::fields::{entries_of, is_marker_line, is_stretch_begin, is_stretch_end};
+use crate::named::Named;
+use crate::notes::Notes;
+use crate::pairs::{has_long, is_long, resolve};
+use crate::stop::LineStop;
+use mps_grammar::FaultKind;
+use mps_tokens::Parts;
+use std::alloc::Global;
+
+/// How many columns there may be.
+const MOST_COLUMNS: usize = 128;
+
+/// Whether a marker's word is neither of the two, or begins a stretch in one, or ends one outside.
+fn is_wrong(begun: bool, word: &[u8]) -> bool
+    ensures { result ≡ is_wrong_stretch begun word.now }
+{
+    if is_stretch_begin(word) {
+        begun
+    } else if is_stretch_end(word) {
+        !begun
+    } else {
+        true
+    }
+}
+
+/// A marker line.
+fn take_marker(notes: &mut Notes, fields: &Parts<'_>) -> Result<(), LineStop>
+    requires sound { IsSound notes.old }
+    requires marker { is_marker fields.now ≡ true }
+    ensures { TakesData notes.old sections.Columns fields.now notes.new result }
+{
+    let word = fields.get(2);
+    if is_wrong(notes.begun, word) {
+        return Err(LineStop::Fault(FaultKind::Marker));
+    }
+    if is_long(fields.get(0)) {
+        return Err(LineStop::Fault(FaultKind::NameLong));
+    }
+    notes.begun = is_stretch_begin(word);
+    Ok(())
+}
+
+/// Puts a new column last, and answers its place.
+fn add_column(
+    alloc: Global,
+    columns: &mut Named<bool>,
+    name: &[u8],
+    marked: bool,
+) -> Result<usize, LineStop>
+    requires { place_of (names_of columns.old) name.now ≡ None }
+    ensures { PlacesColumn columns.old columns.new name.now marked result }
+{
+    let place = columns.len();
+    if place >= MOST_COLUMNS {
+        return Err(LineStop::Fault(FaultKind::TooMany));
+    }
+    let name = Vec::from_slice(alloc, name)?;
+    columns.push(name, marked)?;
+    Ok(place)
+}
+
+/// A line of entries.
+fn take_entries(alloc: Global, notes: &mut Notes, fields: &Parts<'_>) -> Result<(), LineStop>
+    requires sound { IsSound notes.old }
+    requires few { notes.old.lines + 1 < 2 ^ 32 }
+    requires no_marker { is_marker fields.now ≡ false }
+    ensures { TakesData notes.old sections.Columns fields.now notes.new result }
+{
+    let Some(entries) = entries_of(fields) else {
+        return Err(LineStop::Fault(FaultKind::Fields));
+    };
+    if has_long(&entries) {
+        return Err(LineStop::Fault(FaultKind::NameLong));
+    }
+    let items = resolve(notes.rows.names(), false, &entries.pairs)?;
+    let places = row_places(&notes.rows, &items);
+    let column = notes.columns.find(entries.head);
+    if gives_twice(&notes.entries, column, &places) {
+        return Err(LineStop::Fault(FaultKind::EntryTwice));
+    }
+    let column = match column {
+        Some(column) => column,
+        None => add_column(alloc, &mut notes.columns, entries.head, notes.begun)?,
+    };
+    put_items(&mut notes.entries, notes.lines + 1, column, &items, &places)?;
+    Ok(())
+}
+
+/// A line of COLUMNS.
+pub(crate) fn take_columns(
+    alloc: Global,
+    notes: &mut Notes,
+    fields: &Parts<'_>,
+) -> Result<(), LineStop>
+    requires sound { IsSound notes.old }
+    requires few { notes.old.lines + 1 < 2 ^ 32 }
+    ensures { TakesData notes.old sections.Columns fields.now notes.new result }
+{
+    if is_marker_line(fields) {
+        take_marker(notes, fields)
+    } else {
+        take_entries(alloc, notes, fields)
+    }
+}

@@ -1,0 +1,148 @@
+// The rows, with what each of them is.
+
+ghost use Rattle.std.specs.Prelude.{◌≡◌, ◌<◌, ◌≤◌, ◌++◌, ◌∷◌, [], ◌&&◌, nat_le, is_some, is_none, List, ℕ, None, Some, true, length, slice_get, IfSome, OnOk};
+ghost use Rattle.mps_tokens.specs.FieldsOf.{is_filled};
+ghost use Rattle.program_law.specs.Places.{place_of};
+ghost use Rattle.mps_grammar.specs.Told.{names_of, binds, program_rows, objective_in, used_names};
+ghost use Rattle.mps_lines.specs.Named.{things_of};
+ghost use Rattle.mps_lines.specs.Names.{name_at};
+
+use crate::named::Named;
+use frac_core::Memory;
+use mps_tokens::RowKind;
+use std::alloc::Global;
+use std::marker::Model;
+
+/// How many rows of the program there may be.
+const MOST_ROWS: usize = 128;
+
+/// A row's kind, and its place among the objective and the rows of the program, where it is one of them.
+#[derive(Clone, Copy)]
+pub(crate) struct RowUse {
+    pub kind: RowKind,
+    pub place: Option<usize>,
+}
+
+/// The rows with their kinds, in order.
+#[derive(Drop)]
+pub(crate) struct Rows {
+    named: Named<RowUse>,
+    /// How many are rows of the program.
+    bound: usize,
+    /// Whether there is an objective.
+    objective: bool,
+}
+
+impl Model for Rows {
+    ghost use Rattle.std.specs.Prelude.{List, ℕ};
+    ghost use Rattle.mps_tokens.specs.declared.words.RowKind.{RowKind};
+
+    ghost Value = { List (List ℕ × RowKind) };
+
+    ghost use Rattle.mps_lines.specs.Rows.{kinds_in, IsRows};
+
+    ghost view = { kinds_in };
+
+    ghost invariant = { IsRows };
+}
+
+/// Whether a row of this kind is a row of the program.
+pub(crate) fn is_bound(kind: RowKind) -> bool
+    ensures { result ≡ binds kind }
+{
+    match kind {
+        RowKind::Objective => false,
+        RowKind::AtMost | RowKind::AtLeast | RowKind::Equal => true,
+    }
+}
+
+impl Rows {
+    pub(crate) fn new(alloc: Global) -> Self
+        ensures { result ≡ [] }
+    {
+        Rows {
+            named: Named::new(alloc),
+            bound: 0,
+            objective: false,
+        }
+    }
+
+    /// How many there are, further N rows among them.
+    pub(crate) fn len(&self) -> usize
+        ensures { result ≡ length self.now }
+    {
+        self.named.len()
+    }
+
+    /// The rows by their names.
+    pub(crate) fn names(&self) -> &Named<RowUse>
+        ensures { names_of result.now ≡ names_of self.now }
+    {
+        &self.named
+    }
+
+    /// The name of a row.
+    pub(crate) fn name(&self, row: usize) -> &[u8]
+        requires { row < length self.now }
+        ensures { slice_get (names_of self.now) row ≡ Some result.now }
+    {
+        self.named.name(row)
+    }
+
+    /// The kind of a row.
+    pub(crate) fn kind(&self, row: usize) -> RowKind
+        requires { row < length self.now }
+        ensures { slice_get (things_of self.now) row ≡ Some result }
+    {
+        self.named.thing(row).kind
+    }
+
+    /// The place of a row among the objective and the rows of the program.
+    pub(crate) fn place(&self, row: usize) -> Option<usize>
+        requires { row < length self.now }
+        ensures place { result ≡ place_of (used_names self.now) (name_at (names_of self.now) row) }
+        ensures within { IfSome result (λ k. k < 129) }
+    {
+        self.named.thing(row).place
+    }
+
+    /// Whether there is an objective.
+    pub(crate) fn has_objective(&self) -> bool
+        ensures { result ≡ is_some (objective_in self.now) }
+    {
+        self.objective
+    }
+
+    /// Whether there is no room for another row of this kind.
+    pub(crate) fn is_full(&self, kind: RowKind) -> bool
+        ensures { result ≡ (binds kind && nat_le 128 (length (program_rows self.now))) }
+    {
+        is_bound(kind) && self.bound >= MOST_ROWS
+    }
+
+    /// Puts a row last, under a new name.
+    pub(crate) fn push(&mut self, alloc: Global, name: &[u8], kind: RowKind) -> Result<(), Memory>
+        requires absent { place_of (names_of self.old) name.now ≡ None }
+        requires filled { is_filled name.now ≡ true }
+        requires room { binds kind ≡ true → length (program_rows self.old) < 128 }
+        ensures { OnOk result (self.new ≡ self.old ++ (name.now, kind) ∷ []) }
+    {
+        let binds = is_bound(kind);
+        let place = if binds {
+            Some(self.bound + 1)
+        } else if self.objective {
+            None
+        } else {
+            Some(0)
+        };
+        let row = RowUse { kind, place };
+        let name = Vec::from_slice(alloc, name)?;
+        self.named.push(name, row)?;
+        if binds {
+            self.bound += 1;
+        } else {
+            self.objective = true;
+        }
+        Ok(())
+    }
+}

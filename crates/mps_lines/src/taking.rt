@@ -1,0 +1,146 @@
+// One line after the other.
+
+ghost use Rattle.std.specs.Prelude.{◌≡◌, ◌<◌, ◌+◌, ◌^◌, true, take, length, List, ℕ};
+ghost use Rattle.std.specs.List.{list_all};
+ghost use Rattle.mps_tokens.specs.Lines.{without_return};
+ghost use Rattle.mps_tokens.specs.FieldsOf.{is_filled, fields_of};
+ghost use Rattle.mps_grammar.specs.Faults.{is_beyond};
+ghost use Rattle.mps_lines.specs.Notes.{IsSound};
+ghost use Rattle.mps_lines.specs.Steps.{sides_section, TakesData, TakesIndented, TakesContent, TakesShown, TakesLine};
+
+use crate::bounds::take_bounds;
+use crate::columns::take_columns;
+use crate::headers::take_header;
+use crate::lines::{is_comment, is_indented, is_plain};
+use crate::notes::Notes;
+use crate::quadratic::take_pairs;
+use crate::row_lines::take_rows;
+use crate::sides::take_sides;
+use crate::stop::LineStop;
+use mps_grammar::FaultKind;
+use mps_tokens::{Parts, Section};
+use std::alloc::Global;
+
+/// A data line of RHS or of RANGES.
+fn take_sides_of(
+    alloc: Global,
+    notes: &mut Notes,
+    ranges: bool,
+    fields: &Parts<'_>,
+) -> Result<(), LineStop>
+    requires sound { IsSound notes.old }
+    requires few { notes.old.lines + 1 < 2 ^ 32 }
+    ensures { TakesData notes.old (sides_section ranges) fields.now notes.new result }
+{
+    let line = notes.lines + 1;
+    if ranges {
+        take_sides(alloc, &notes.rows, &mut notes.ranges, line, fields)
+    } else {
+        take_sides(alloc, &notes.rows, &mut notes.sides, line, fields)
+    }
+}
+
+/// A data line of a section.
+fn take_data(
+    alloc: Global,
+    notes: &mut Notes,
+    section: Section,
+    fields: &Parts<'_>,
+) -> Result<(), LineStop>
+    requires sound { IsSound notes.old }
+    requires few { notes.old.lines + 1 < 2 ^ 32 }
+    requires some { 0 < length fields.now }
+    requires filled { list_all is_filled fields.now ≡ true }
+    ensures { TakesData notes.old section fields.now notes.new result }
+{
+    match section {
+        Section::Rows => take_rows(alloc, notes, fields),
+        Section::Columns => take_columns(alloc, notes, fields),
+        Section::Rhs => take_sides_of(alloc, notes, false, fields),
+        Section::Ranges => take_sides_of(alloc, notes, true, fields),
+        Section::Bounds => take_bounds(alloc, notes, fields),
+        Section::QuadObj | Section::QMatrix | Section::DMatrix => {
+            take_pairs(notes, section, fields)
+        }
+        Section::Name | Section::EndData | Section::ObjSense => {
+            Err(LineStop::Fault(FaultKind::SectionOrder))
+        }
+    }
+}
+
+/// A data line, which stands in the section that was begun last.
+fn take_indented(
+    alloc: Global,
+    notes: &mut Notes,
+    fields: &Parts<'_>,
+) -> Result<(), LineStop>
+    requires sound { IsSound notes.old }
+    requires few { notes.old.lines + 1 < 2 ^ 32 }
+    requires some { 0 < length fields.now }
+    requires filled { list_all is_filled fields.now ≡ true }
+    ensures { TakesIndented notes.old fields.now notes.new result }
+{
+    match notes.sections.first() {
+        Some(section) => take_data(alloc, notes, *section, fields),
+        None => Err(LineStop::Fault(FaultKind::SectionOrder)),
+    }
+}
+
+/// What is told by a header or a data line. Answers whether it is ENDATA.
+fn take_content(
+    alloc: Global,
+    notes: &mut Notes,
+    line: &[u8],
+    fields: &Parts<'_>,
+) -> Result<bool, LineStop>
+    requires sound { IsSound notes.old }
+    requires few { notes.old.lines + 1 < 2 ^ 32 }
+    requires fields { fields.now ≡ take 6 (fields_of line.now) }
+    requires some { 0 < length fields.now }
+    ensures { TakesContent notes.old line.now notes.new result }
+{
+    if is_indented(line) {
+        take_indented(alloc, notes, fields)?;
+        Ok(false)
+    } else {
+        take_header(notes, fields.get(0))
+    }
+}
+
+/// What is told by a line within reach. Answers whether it is ENDATA.
+fn take_shown(alloc: Global, notes: &mut Notes, line: &[u8]) -> Result<bool, LineStop>
+    requires sound { IsSound notes.old }
+    requires few { notes.old.lines + 1 < 2 ^ 32 }
+    ensures { TakesShown notes.old line.now notes.new result }
+{
+    if is_comment(line) {
+        return Ok(false);
+    }
+    if !is_plain(line) {
+        return Err(LineStop::Fault(FaultKind::NotAscii));
+    }
+    let fields = Parts::of(line);
+    if fields.len() == 0 {
+        return Ok(false);
+    }
+    take_content(alloc, notes, line, &fields)
+}
+
+/// The next line, of which `beyond` says whether it has a byte too far into the text. Answers whether it is ENDATA.
+pub(crate) fn take_line(
+    alloc: Global,
+    notes: &mut Notes,
+    line: &[u8],
+    beyond: bool,
+) -> Result<bool, LineStop>
+    requires sound { IsSound notes.old }
+    requires few { notes.old.lines + 1 < 2 ^ 32 }
+    ensures { (at : ℕ) (raw : List ℕ) → line.now ≡ without_return raw → beyond ≡ is_beyond at raw → TakesLine notes.old at raw notes.new result }
+{
+    if beyond {
+        return Err(LineStop::Fault(FaultKind::TextLong));
+    }
+    let ended = take_shown(alloc, notes, line)?;
+    notes.lines += 1;
+    Ok(ended)
+}
