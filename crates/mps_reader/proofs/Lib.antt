@@ -1,5 +1,7 @@
 pub mod Names
 pub mod Tables
+pub mod Tellings
+pub mod ByRows
 pub mod Pairs
 pub mod Programs
 pub mod GoodSides

@@ -5,7 +5,7 @@ use Rattle.std.specs.Str.{bytes_eq}
 use Rattle.std.proofs.lemmas.Bool.{cases_Bool, ne_eqb, eq-eqb, false_from_ne_true}
 use Rattle.std.proofs.lemmas.Slice.Eq.{bytes_eq-Decides}
 use Rattle.program_law.specs.Places.{place_of}
-use Rattle.mps_reader.specs.Names.{Differ}
+use Rattle.mps_lines.specs.Names.{Differ}
 
 abbrev pub at_place : ℕ → Option ℕ
 at_place k = Some k

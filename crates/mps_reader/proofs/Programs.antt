@@ -12,7 +12,7 @@ use Rattle.program_law.specs.Changes.{zeros, widened, with_place, with_row, with
 use Rattle.mps_tokens.specs.declared.words.RowKind.{RowKind}
 use Rattle.mps_grammar.specs.Told.{Told, Telling, names_of, program_rows, used_names}
 use Rattle.mps_grammar.specs.Programs.{value_told, objective_of, row_of, column_of, pair_value, gives_pairs_once, program_of}
-use Rattle.mps_reader.specs.Names.{Differ}
+use Rattle.mps_lines.specs.Names.{Differ}
 use Rattle.mps_reader.specs.Assembled.{numbers_in, last_value, square_of, assembled, with_number, blank}
 use Rattle.mps_reader.specs.Sound.{AreToldOnce}
 use Rattle.mps_reader.proofs.Names.{eq_self, eq_sym, ne_sym, place_behind, place_first, absent_parts}

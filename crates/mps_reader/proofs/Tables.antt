@@ -5,7 +5,7 @@ use Rattle.std.specs.Option.{option_map}
 use Rattle.std.specs.Str.{bytes_eq}
 use Rattle.program_law.specs.Places.{place_of}
 use Rattle.program_law.specs.Changes.{renewed}
-use Rattle.mps_reader.specs.Names.{Differ}
+use Rattle.mps_lines.specs.Names.{Differ}
 use Rattle.mps_reader.proofs.Names.{absent_parts, eq_from}
 
 -- nothing is different where the name doesn't stand

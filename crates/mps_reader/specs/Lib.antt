@@ -1,5 +1,5 @@
 pub mod Ranged
 pub mod Bounding
-pub mod Names
 pub mod Assembled
 pub mod Sound
+pub mod ByRow

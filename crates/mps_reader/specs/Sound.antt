@@ -3,7 +3,7 @@ use Rattle.std.specs.Prelude.{◌≡◌, ◌≢◌, ℕ, ◌≤◌, true, false,
 use Rattle.program_law.specs.Program.{IsName, marker}
 use Rattle.mps_grammar.specs.Told.{Told, Telling, names_of, program_rows, objective_in, is_told}
 use Rattle.mps_grammar.specs.Programs.{gives_pairs_once}
-use Rattle.mps_reader.specs.Names.{Differ}
+use Rattle.mps_lines.specs.Names.{Differ}
 
 -- each pair of names is told once at most, in either order
 abbrev pub AreToldOnce : List Telling → Type 0

@@ -1,35 +1,23 @@
 // Columns whose bounds are being told.
 
-ghost use Rattle.std.specs.Prelude.{◌≡◌, ◌∷◌, [], Bool, List, ℕ};
-ghost use Rattle.mps_grammar.specs.Told.{BoundTelling};
+ghost use Rattle.std.specs.Prelude.{◌≡◌, ◌∷◌, [], Bool, List, ℕ, IfOk};
+ghost use Rattle.mps_grammar.specs.Told.{BoundTelling, names_of};
+ghost use Rattle.mps_lines.specs.Names.{Differ};
 ghost use Rattle.mps_grammar.specs.Programs.{sets_low, with_bound};
-ghost use Rattle.mps_reader.specs.Bounding.{IsBounded, low_left};
+ghost use Rattle.mps_reader.specs.Bounding.{bounding_of, boundings_of, low_left};
 
 use check_steps::is_negative;
-use frac_core::Frac;
+use frac_core::{Frac, Memory};
+use mps_lines::Draft;
 use mps_tokens::BoundKind;
 use program_law::Column;
+use std::alloc::Global;
 
 /// A column whose bounds are being told, and whether one of them set the low bound.
 #[derive(Clone, Copy)]
 pub(crate) struct Bounding {
     pub column: Column,
     pub low_is_set: bool,
-}
-
-/// A column that no bound is told of: it is at least 0.
-pub(crate) fn unbounded(mark: bool) -> Bounding
-    ensures { IsBounded mark [] result.column result.low_is_set }
-{
-    let column = Column {
-        low: Some(Frac::whole(0)),
-        high: None,
-        whole: mark,
-    };
-    Bounding {
-        column,
-        low_is_set: false,
-    }
 }
 
 // Whether a bound of this kind sets the low bound.
@@ -60,7 +48,7 @@ fn left_low(before: &Bounding, high: Frac) -> Option<Frac>
 
 // The low bound after one bound more.
 fn low_with(before: &Bounding, kind: BoundKind, value: Frac) -> Option<Frac>
-    ensures { (mark : Bool) (earlier : List BoundTelling) → IsBounded mark earlier before.now.column before.now.low_is_set →
+    ensures { (mark : Bool) (earlier : List BoundTelling) → before.now ≡ bounding_of mark earlier →
         result ≡ (with_bound earlier kind value before.now.column).low }
 {
     match kind {
@@ -102,8 +90,8 @@ fn whole_with(before: &Bounding, kind: BoundKind, value: Frac) -> bool
 /// A column with one bound more, after the earlier ones.
 pub(crate) fn bounded(before: &Bounding, kind: BoundKind, value: Frac) -> Bounding
     ensures { (mark : Bool) (earlier : List BoundTelling) (name : List ℕ) →
-        IsBounded mark earlier before.now.column before.now.low_is_set →
-        IsBounded mark (record { kind = kind; column = name; value = value } ∷ earlier) result.column result.low_is_set }
+        before.now ≡ bounding_of mark earlier →
+        result ≡ bounding_of mark (record { kind = kind; column = name; value = value } ∷ earlier) }
 {
     let low = low_with(before, kind, value);
     let high = high_with(before, kind, value);
@@ -113,4 +101,37 @@ pub(crate) fn bounded(before: &Bounding, kind: BoundKind, value: Frac) -> Boundi
         column,
         low_is_set: sets_low(kind) || before.low_is_set,
     }
+}
+
+// The columns before any bound is told.
+fn unbounded_columns(alloc: Global, draft: &Draft) -> Result<Vec<Bounding>, Memory>
+    ensures columns { IfOk result (λ columns. columns.items ≡ boundings_of draft.now.columns []) }
+    ensures differ { Differ (names_of draft.now.columns) }
+{
+    let mut columns = Vec::with_capacity(alloc, draft.columns())?;
+    for column in 0..draft.columns() {
+        let at_first = Column {
+            low: Some(Frac::whole(0)),
+            high: None,
+            whole: draft.column_mark(column),
+        };
+        columns.push(Bounding {
+            column: at_first,
+            low_is_set: false,
+        })?;
+    }
+    Ok(columns)
+}
+
+/// The columns with their bounds.
+pub(crate) fn bounded_columns(alloc: Global, draft: &Draft) -> Result<Vec<Bounding>, Memory>
+    ensures { IfOk result (λ columns. columns.items ≡ boundings_of draft.now.columns draft.now.bounds) }
+{
+    let mut columns = unbounded_columns(alloc, draft)?;
+    let bounds = draft.bounds();
+    for bound in bounds {
+        let column = &mut columns[bound.column];
+        *column = bounded(column, bound.kind, bound.value);
+    }
+    Ok(columns)
 }

@@ -2,4 +2,5 @@
 #![tactic(auto)]
 
 mod columns;
+mod rows;
 mod sides;
