@@ -3,3 +3,4 @@ pub mod Bounding
 pub mod Assembled
 pub mod Sound
 pub mod ByRow
+pub mod PairTable

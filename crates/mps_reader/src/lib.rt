@@ -2,5 +2,6 @@
 #![tactic(auto)]
 
 mod columns;
+mod faults;
 mod rows;
 mod sides;
