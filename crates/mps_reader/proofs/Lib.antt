@@ -3,6 +3,8 @@ pub mod Tables
 pub mod Tellings
 pub mod ByRows
 pub mod FirstLines
+pub mod UsedNames
 pub mod Pairs
 pub mod Programs
+pub mod NumberSteps
 pub mod GoodSides

@@ -1,5 +1,5 @@
 -- A program while its numbers are being set.
-use Rattle.std.specs.Prelude.{ℕ, zero, suc, ◌&&◌, List, [], ◌∷◌, map, length, if◌then◌else◌}
+use Rattle.std.specs.Prelude.{ℕ, zero, suc, ◌&&◌, List, [], ◌∷◌, map, length, Option, Some, None, if◌then◌else◌}
 use Rattle.std.specs.Str.{bytes_eq}
 use Rattle.rational.specs.Rational.{ℚ, zero_ℚ}
 use Rattle.program_law.specs.declared.Row.{Row}
@@ -36,6 +36,11 @@ assembled told entries pairs =
 abbrev pub with_number : Program → ℕ → ℕ → ℚ → Program
 with_number p zero j value = with_cost p j value
 with_number p (suc i) j value = with_entry p i j value
+
+-- the same, where the row is one of these
+abbrev pub with_placed : Program → Option ℕ → ℕ → ℚ → Program
+with_placed p None j value = p
+with_placed p (Some place) j value = with_number p place j value
 
 -- rows and columns without numbers
 abbrev pub blank : List ℕ → List (List ℕ × Row) → List (List ℕ × Column) → Program

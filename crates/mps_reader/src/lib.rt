@@ -3,5 +3,7 @@
 
 mod columns;
 mod faults;
+mod naming;
+mod numbers;
 mod rows;
 mod sides;
