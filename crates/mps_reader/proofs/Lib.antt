@@ -7,4 +7,5 @@ pub mod UsedNames
 pub mod Pairs
 pub mod Programs
 pub mod NumberSteps
+pub mod Additions
 pub mod GoodSides

@@ -67,7 +67,7 @@ last-either (t ∷ ts) x y = step (bytes_eq x t.row) (bytes_eq y t.column) (byte
     step false false true false again = again
     step false false false d again = again
 
-or_other-none : {A : Type 0} (a b : Option A) → or_other a b ≡ None → (a ≡ None) × (b ≡ None)
+pub or_other-none : {A : Type 0} (a b : Option A) → or_other a b ≡ None → (a ≡ None) × (b ≡ None)
 or_other-none None b e = (refl, e)
 or_other-none (Some x) b e = absurd cc
 

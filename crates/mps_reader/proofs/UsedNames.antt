@@ -10,7 +10,7 @@ use Rattle.mps_lines.specs.Names.{Differ}
 use Rattle.mps_reader.proofs.Names.{eq_self, eq_from, ne_from, ne_sym, absent_parts, absent_head}
 
 -- a name that isn't there isn't among the rows of the program
-absent-bound : (rows : List (List ℕ × RowKind)) (name : List ℕ) → place_of (names_of rows) name ≡ None → place_of (names_of (program_rows rows)) name ≡ None
+pub absent-bound : (rows : List (List ℕ × RowKind)) (name : List ℕ) → place_of (names_of rows) name ≡ None → place_of (names_of (program_rows rows)) name ≡ None
 absent-bound [] name e = refl
 absent-bound (r ∷ rs) name e =
     let p = absent_parts r.0 name (names_of rs) e in

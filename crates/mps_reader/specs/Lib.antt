@@ -4,3 +4,4 @@ pub mod Assembled
 pub mod Sound
 pub mod ByRow
 pub mod PairTable
+pub mod Built

@@ -1,6 +1,7 @@
 //! Reads the program that a program file stands for.
 #![tactic(auto)]
 
+mod building;
 mod columns;
 mod faults;
 mod naming;
