@@ -2,13 +2,13 @@
 use Rattle.std.proofs.Common.{◌≡◌, ℕ, zero, suc, ◌+◌, ◌<◌, ◌≤◌, Bool, true, false, List, [], ◌∷◌, ◌++◌, map, take, length, get_or, Option, Some, None, refl, sym, ap, subst, ◌∙◌, arith, if◌then◌else◌, ◌&&◌, IsSome, true≢false, Result, Ok, Err, OnOk}
 use Rattle.std.specs.Prelude.{slice_get, unwrap_or}
 use Rattle.std.specs.Str.{bytes_eq}
-use Rattle.std.proofs.lemmas.List.{take_more, get_or-map, append-nil}
-use Rattle.rational.specs.Rational.{ℚ, zero_ℚ}
+use Rattle.std.proofs.lemmas.List.{take_more, take_all, get_or-map, append-nil}
+use Rattle.rational.specs.Rational.{ℚ, neg_ℚ}
 use Rattle.program_law.specs.declared.Row.{Row}
 use Rattle.program_law.specs.declared.Column.{Column}
 use Rattle.program_law.specs.Places.{place_of}
 use Rattle.program_law.specs.Program.{Program, row_names, column_names}
-use Rattle.program_law.specs.Changes.{with_row, with_column}
+use Rattle.program_law.specs.Changes.{with_row, with_column, with_constant}
 use Rattle.mps_tokens.specs.declared.words.RowKind.{RowKind}
 use Rattle.mps_tokens.specs.Cases.{named}
 use Rattle.mps_grammar.specs.Told.{Told, Telling, is_at, names_of, binds, program_rows, objective_in, used_names}
@@ -17,11 +17,12 @@ use Rattle.mps_lines.specs.Names.{Differ, name_at}
 use Rattle.mps_reader.specs.Ranged.{is_past, sides_if_held}
 use Rattle.mps_reader.specs.declared.columns.Bounding.{Bounding}
 use Rattle.mps_reader.specs.Bounding.{bounding_of, boundings_of}
-use Rattle.mps_reader.specs.Assembled.{blank}
+use Rattle.mps_reader.specs.ByRow.{rights_of}
+use Rattle.mps_reader.specs.Assembled.{blank, assembled}
 use Rattle.mps_reader.specs.Built.{AreSides, rows_built, columns_built}
 use Rattle.mps_reader.proofs.Names.{eq_self, eq_from, ne_from, none_some, absent_parts, absent_head}
 use Rattle.mps_reader.proofs.Tellings.{place-name_at}
-use Rattle.mps_reader.proofs.Programs.{map-push, blank-row, blank-column}
+use Rattle.mps_reader.proofs.Programs.{map-push, blank-row, blank-column, assembled-start}
 use Rattle.mps_reader.proofs.UsedNames.{absent-bound, used-differ}
 use Rattle.mps_reader.proofs.ByRows.{length_names, thing_at}
 use Rattle.mps_reader.proofs.FirstLines.{read_at, right_at, kind_at}
@@ -227,3 +228,16 @@ is_none e = cc
 
 pub is_some : {A : Type 0} {a b : A} → Some a ≡ Some b → a ≡ b
 is_some e = cc
+
+-- ---- all rows and columns, and the constant
+
+pub shaped-end : (told : Told) (rights : List ℚ) (k : ℕ) (right v : ℚ) (p new : Program) → k < length told.rows → objective_in told.rows ≡ Some (name_at (names_of told.rows) k) → rights ≡ rights_of (names_of told.rows) told.sides → slice_get rights k ≡ Some right
+    → v ≡ neg_ℚ right → p ≡ columns_built told (length told.columns) → new ≡ with_constant p v → new ≡ assembled told [] []
+shaped-end told rights k right v p new h objective rights_are found negated before after =
+    let within : k < length (names_of told.rows) = omega (arith, h, length_names told.rows) in
+    let name : objective_of told ≡ name_at (names_of told.rows) k = ap (λ (o : Option (List ℕ)). unwrap_or o []) objective in
+    let read : value_told told.sides [] (name_at (names_of told.rows) k) ≡ right = right_at (names_of told.rows) told.sides k right within (ap (λ (l : List ℚ). slice_get l k) (sym rights_are) ∙ found) in
+    let value : v ≡ neg_ℚ (value_told told.sides [] (objective_of told)) = negated ∙ ap neg_ℚ (sym read) ∙ ap (λ n. neg_ℚ (value_told told.sides [] n)) (sym name) in
+    let rows = map (row_of told) (program_rows told.rows) in
+    let all : columns_built told (length told.columns) ≡ blank (objective_of told) rows (map (column_of told) told.columns) = ap (λ (l : List (List ℕ × Bool)). blank (objective_of told) rows (map (column_of told) l)) (take_all (length told.columns) told.columns (omega arith)) in
+    after ∙ ap (λ (q : Program). with_constant q v) (before ∙ all) ∙ ap (with_constant (blank (objective_of told) rows (map (column_of told) told.columns))) value ∙ assembled-start told

@@ -7,5 +7,6 @@ pub mod UsedNames
 pub mod Pairs
 pub mod Programs
 pub mod NumberSteps
+pub mod EndFaults
 pub mod Additions
 pub mod GoodSides

@@ -5,3 +5,4 @@ pub mod Sound
 pub mod ByRow
 pub mod PairTable
 pub mod Built
+pub mod Reading

@@ -4,6 +4,7 @@
 mod building;
 mod columns;
 mod faults;
+mod finishing;
 mod naming;
 mod numbers;
 mod rows;
