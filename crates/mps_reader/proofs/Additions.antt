@@ -154,7 +154,7 @@ row-absent told k kind name p differ some h e bound is name_is =
     let names : row_names p ≡ objective_of told ∷ names_of (program_rows (take k told.rows)) = ap row_names is ∙ ap (λ (l : List (List ℕ)). objective_of told ∷ l) (row_names-same told (program_rows (take k told.rows))) in
     ap (λ l. place_of l name) names ∙ ap (place_of (objective_of told ∷ names_of (program_rows (take k told.rows)))) name_is ∙ new-name told.rows k kind differ some h e bound
 
-filter-push : (rows : List (List ℕ × RowKind)) (r : List ℕ × RowKind) → program_rows (rows ++ r ∷ []) ≡ program_rows rows ++ program_rows (r ∷ [])
+pub filter-push : (rows : List (List ℕ × RowKind)) (r : List ℕ × RowKind) → program_rows (rows ++ r ∷ []) ≡ program_rows rows ++ program_rows (r ∷ [])
 filter-push [] r = refl
 filter-push (x ∷ xs) r = by_kind (binds x.1) (filter-push xs r)
   where

@@ -9,4 +9,5 @@ pub mod Programs
 pub mod NumberSteps
 pub mod EndFaults
 pub mod Additions
+pub mod SoundLines
 pub mod GoodSides
