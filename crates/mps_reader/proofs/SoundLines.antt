@@ -6,7 +6,7 @@ use Rattle.std.proofs.lemmas.List.{length-append}
 use Rattle.std.proofs.lemmas.Bool.{or_parts, and_right}
 use Rattle.std.proofs.lemmas.Bool.Decides.{nat_tests}
 use Rattle.rational.specs.Rational.{ℚ}
-use Rattle.mps_tokens.specs.Lines.{without_return}
+use Rattle.mps_tokens.specs.Lines.{raw_lines, without_return}
 use Rattle.mps_tokens.specs.FieldsOf.{fields_of}
 use Rattle.mps_tokens.specs.Cases.{named}
 use Rattle.mps_tokens.specs.Words.{section_names}
@@ -23,6 +23,7 @@ use Rattle.mps_grammar.specs.Programs.{is_quadobj, gives_pairs_once}
 use Rattle.mps_grammar.specs.Faults.{Tests, first_of, gives_twice, is_given_pair, any_pair, row_tests, named_row_tests, pair_tests, data_tests, may_begin, header_tests, section_tests, content_tests, shown_tests, line_fault, is_beyond, is_plain}
 use Rattle.mps_grammar.specs.After.{told_more, told_within, told_header, told_content, told_shown, counted, told_after}
 use Rattle.mps_grammar.specs.Verdict.{Fault, is_end, ends, unless, verdict, verdict_of}
+use Rattle.mps_grammar.specs.Reading.{Spot, behind, told_verdict, told_of}
 use Rattle.mps_grammar.proofs.After.{told_line}
 use Rattle.mps_reader.specs.Sound.{AreToldOnce, HaveOneQuadratic, IsSound}
 use Rattle.mps_reader.proofs.Names.{eq_from, ne_sym, ne_from, ne_eq}
@@ -271,16 +272,99 @@ header-sound told (Some s) h e =
 counted-sound : (told : Told) → IsSound told → IsSound (counted told)
 counted-sound told h = same-sound told (counted told) h refl refl refl
 
-line-sound : (told : Told) (at : ℕ) (raw : List ℕ) → IsSound told → line_fault told at raw ≡ None → IsSound (told_after told (without_return raw))
-line-sound told at raw h e = counted-sound (told_shown told (without_return raw)) (by_kind (is_passed (without_return raw)) (is_indented (without_return raw)) (shown_none e))
-  where
-    shown_none : line_fault told at raw ≡ None → first_of (shown_tests told (without_return raw)) ≡ None
-    shown_none e = none_later (not (is_comment (without_return raw)) && not (is_plain (without_return raw)), kinds.NotAscii) (shown_tests told (without_return raw))
-        (none_later (is_beyond at raw, kinds.TextLong) ((not (is_comment (without_return raw)) && not (is_plain (without_return raw)), kinds.NotAscii) ∷ shown_tests told (without_return raw)) e)
+shown-none : (told : Told) (at : ℕ) (raw : List ℕ) → line_fault told at raw ≡ None → first_of (shown_tests told (without_return raw)) ≡ None
+shown-none told at raw e =
+    let plain : Bool × FaultKind = (not (is_comment (without_return raw)) && not (is_plain (without_return raw)), kinds.NotAscii) in
+    none_later plain (shown_tests told (without_return raw)) (none_later (is_beyond at raw, kinds.TextLong) (plain ∷ shown_tests told (without_return raw)) e)
 
+line-sound : (told : Told) (at : ℕ) (raw : List ℕ) → IsSound told → line_fault told at raw ≡ None → IsSound (told_after told (without_return raw))
+line-sound told at raw h e = counted-sound (told_shown told (without_return raw)) (by_kind (is_passed (without_return raw)) (is_indented (without_return raw)) (shown-none told at raw e))
+  where
     by_kind : (passed indented : Bool)
         → first_of (if passed then [] else (if indented then section_tests told told.sections (fields_of (without_return raw)) else header_tests told (named section_names (field (fields_of (without_return raw)) 0)))) ≡ None
         → IsSound (if passed then told else (if indented then told_within told told.sections (fields_of (without_return raw)) else told_header told (named section_names (field (fields_of (without_return raw)) 0))))
     by_kind true indented e = h
     by_kind false true e = within-sound told told.sections (fields_of (without_return raw)) h refl e
     by_kind false false e = header-sound told (named section_names (field (fields_of (without_return raw)) 0)) h e
+
+-- ---- all lines up to ENDATA
+
+end-section : (section : Option Section) → is_end section ≡ true → section ≡ Some sections.EndData
+end-section None e = absurd cc
+end-section (Some sections.EndData) e = refl
+end-section (Some sections.Name) e = absurd cc
+end-section (Some sections.Rows) e = absurd cc
+end-section (Some sections.Columns) e = absurd cc
+end-section (Some sections.Rhs) e = absurd cc
+end-section (Some sections.Ranges) e = absurd cc
+end-section (Some sections.Bounds) e = absurd cc
+end-section (Some sections.QuadObj) e = absurd cc
+end-section (Some sections.QMatrix) e = absurd cc
+end-section (Some sections.DMatrix) e = absurd cc
+end-section (Some sections.ObjSense) e = absurd cc
+
+-- a line that ends a program stands behind COLUMNS
+end-columns : (told : Told) (at : ℕ) (raw : List ℕ) → line_fault told at raw ≡ None → ends (without_return raw) ≡ true → list_any is_columns (told_after told (without_return raw)).sections ≡ true
+end-columns told at raw e end = by_kind (is_passed (without_return raw)) (is_indented (without_return raw)) (shown-none told at raw e) end
+  where
+    by_kind : (passed indented : Bool)
+        → first_of (if passed then [] else (if indented then section_tests told told.sections (fields_of (without_return raw)) else header_tests told (named section_names (field (fields_of (without_return raw)) 0)))) ≡ None
+        → is_end (if not passed && not indented then named section_names (field (fields_of (without_return raw)) 0) else None) ≡ true
+        → list_any is_columns (if passed then told else (if indented then told_within told told.sections (fields_of (without_return raw)) else told_header told (named section_names (field (fields_of (without_return raw)) 0)))).sections ≡ true
+    by_kind true indented e end = absurd cc
+    by_kind false true e end = absurd cc
+    by_kind false false e end =
+        let is : named section_names (field (fields_of (without_return raw)) 0) ≡ Some sections.EndData = end-section (named section_names (field (fields_of (without_return raw)) 0)) end in
+        let tests : first_of (header_tests told (Some sections.EndData)) ≡ None = ap (λ (o : Option Section). first_of (header_tests told o)) (sym is) ∙ e in
+        rw is (not_parts (list_any is_columns told.sections) (none_holds (header_tests told (Some sections.EndData)) 1 tests))
+
+start-sound : IsSound (told_by [])
+start-sound = record {
+  few_rows = omega arith;
+  objective = λ e. absurd cc;
+  one_quadratic = tt;
+  no_pairs = λ e. refl;
+  pairs = λ e. tt;
+}
+
+-- what lines up to ENDATA tell
+pub record IsWhole (told : Told) : Type 0 where
+  pub sound : IsSound told
+  pub columns : list_any is_columns told.sections ≡ true
+
+verdict-sound : (raws : List (List ℕ)) (at : ℕ) (earlier : List (List ℕ)) (v : List (List ℕ) × ℕ) → IsSound (told_by earlier) → verdict at earlier raws ≡ Ok v → IsWhole (told_by v.0)
+verdict-sound [] at earlier v h e = absurd cc
+verdict-sound (raw ∷ raws) at earlier v h e =
+    by_fault (line_fault (told_by earlier) at raw) (ends (without_return raw)) refl refl e (λ next f. verdict-sound raws (at + length raw + 1) (without_return raw ∷ earlier) v next f)
+  where
+    lines_are : (a b : List (List ℕ) × ℕ) → (let r : Result (List (List ℕ) × ℕ) Fault = Ok a in r) ≡ Ok b → a ≡ b
+    lines_are a b e = cc
+
+    next_sound : line_fault (told_by earlier) at raw ≡ None → IsSound (told_by (without_return raw ∷ earlier))
+    next_sound p = rw (told_line earlier (without_return raw)) (line-sound (told_by earlier) at raw h p)
+
+    by_fault : (o : Option FaultKind) (b : Bool) → line_fault (told_by earlier) at raw ≡ o → ends (without_return raw) ≡ b
+        → unless o (length earlier + 1) (if b then Ok (without_return raw ∷ earlier, at + length raw + 1) else verdict (at + length raw + 1) (without_return raw ∷ earlier) raws) ≡ Ok v
+        → (IsSound (told_by (without_return raw ∷ earlier)) → verdict (at + length raw + 1) (without_return raw ∷ earlier) raws ≡ Ok v → IsWhole (told_by v.0)) → IsWhole (told_by v.0)
+    by_fault (Some kind) b p q e again = absurd cc
+    by_fault None true p q e again =
+        let is : (without_return raw ∷ earlier, at + length raw + 1) ≡ v = lines_are (without_return raw ∷ earlier, at + length raw + 1) v e in
+        subst (λ (v : List (List ℕ) × ℕ). IsWhole (told_by v.0)) is (record {
+          sound = next_sound p;
+          columns = ap (λ (t : Told). list_any is_columns t.sections) (told_line earlier (without_return raw)) ∙ end-columns (told_by earlier) at raw p q;
+        })
+    by_fault None false p q e again = again (next_sound p) e
+
+abbrev answer : Told × Spot → Result (Told × Spot) Fault
+answer x = Ok x
+
+same_answer : (x y : Told × Spot) → answer x ≡ answer y → x ≡ y
+same_answer x y e = cc
+
+-- what is told of a text
+pub told-whole : (text : List ℕ) (told : Told) (spot : Spot) → told_of text ≡ Ok (told, spot) → IsWhole told
+told-whole text told spot e = by_verdict (verdict_of text) refl e
+  where
+    by_verdict : (r : Result (List (List ℕ) × ℕ) Fault) → verdict_of text ≡ r → told_verdict text r ≡ Ok (told, spot) → IsWhole told
+    by_verdict (Err fault) p e = absurd cc
+    by_verdict (Ok v) p e = subst IsWhole (ap (λ (x : Told × Spot). x.0) (same_answer (told_by v.0, behind text v) (told, spot) e)) (verdict-sound (raw_lines text) 0 [] v start-sound p)

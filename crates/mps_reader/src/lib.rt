@@ -7,5 +7,10 @@ mod faults;
 mod finishing;
 mod naming;
 mod numbers;
+mod reading;
 mod rows;
 mod sides;
+
+pub use mps_grammar::FaultKind;
+pub use mps_lines::{Place, ReadStop, rest};
+pub use reading::read;
