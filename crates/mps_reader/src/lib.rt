@@ -14,3 +14,6 @@ mod sides;
 pub use mps_grammar::FaultKind;
 pub use mps_lines::{Place, ReadStop, rest};
 pub use reading::read;
+
+#[cfg(test)]
+mod tests;
