@@ -1,9 +1,10 @@
 // Lines of BOUNDS.
 
 ghost use Rattle.std.specs.Prelude.{◌≡◌, ◌<◌, [], None, length, OnOk};
+ghost use Rattle.std.specs.Option.{option_map};
 ghost use Rattle.mps_tokens.specs.declared.words.Section.TheVariants as sections;
 ghost use Rattle.mps_grammar.specs.Fields.{has_number};
-ghost use Rattle.mps_lines.specs.Views.{viewed_spelling, viewed_bounded};
+ghost use Rattle.mps_lines.specs.Views.{viewed_bounded};
 ghost use Rattle.mps_lines.specs.Notes.{IsSound};
 ghost use Rattle.mps_lines.specs.Steps.{TakesData, ReadsBound, BoundDone, TakesBounded};
 
@@ -63,7 +64,7 @@ fn needs_number(kind: BoundKind) -> bool
 
 /// The number of a bound, or 0 where it is missing.
 fn value_of(spelling: Option<&[u8]>) -> Result<Frac, FaultKind>
-    ensures { ReadsBound (viewed_spelling spelling.entry) result }
+    ensures { ReadsBound (option_map (λ s. s.now) spelling.entry) result }
 {
     let Some(spelling) = spelling else {
         return Ok(Frac::whole(0));

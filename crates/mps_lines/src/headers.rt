@@ -3,6 +3,7 @@
 ghost use Rattle.std.specs.Prelude.{◌≡◌};
 ghost use Rattle.mps_grammar.specs.Told.{is_rows, is_columns, is_rhs, is_ranges, is_bounds, is_quadratic};
 ghost use Rattle.mps_grammar.specs.Faults.{may_begin, is_sense};
+ghost use Rattle.mps_lines.specs.Notes.{IsSound};
 ghost use Rattle.mps_lines.specs.Steps.{TakesHeader, is_end_section};
 
 use crate::notes::Notes;
@@ -84,6 +85,7 @@ fn may_begin(begun: &[Section], section: Section) -> bool
 
 /// A header with this word. Answers whether it is ENDATA.
 pub(crate) fn take_header(notes: &mut Notes, word: &[u8]) -> Result<bool, LineStop>
+    requires { IsSound notes.old }
     ensures { TakesHeader notes.old word.now notes.new result }
 {
     let Some(section) = section_of(word) else {
@@ -98,6 +100,8 @@ pub(crate) fn take_header(notes: &mut Notes, word: &[u8]) -> Result<bool, LineSt
     if is_columns(section) && !notes.rows.has_objective() {
         return Err(LineStop::Fault(FaultKind::NoObjective));
     }
-    notes.sections.insert(0, section)?;
+    if notes.sections.insert(0, section).is_err() {
+        return Err(LineStop::Memory);
+    }
     Ok(is_end(section))
 }

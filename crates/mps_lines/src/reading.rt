@@ -1,7 +1,8 @@
 // Reading a text up to ENDATA.
 
 ghost use Rattle.std.specs.Prelude.{◌≡◌, ◌≤◌, ◌^◌, length};
-ghost use Rattle.mps_lines.specs.Reading.{Tells, Notes_of, Rests};
+ghost use Rattle.mps_lines.specs.Reading.{read_stop, TellsNotes, Tells, spot_of, spot_in};
+ghost use Rattle.mps_grammar.specs.Lines.{is_passed};
 ghost use Rattle.mps_grammar.specs.Reading.{told_of, rest_of};
 
 use crate::draft::Draft;

@@ -1,12 +1,12 @@
 // One line after the other.
 
-ghost use Rattle.std.specs.Prelude.{◌≡◌, ◌<◌, ◌+◌, ◌^◌, true, false, length, List, ℕ};
+ghost use Rattle.std.specs.Prelude.{◌≡◌, ◌<◌, ◌+◌, ◌^◌, true, take, length, List, ℕ};
 ghost use Rattle.std.specs.List.{list_all};
 ghost use Rattle.mps_tokens.specs.Lines.{without_return};
-ghost use Rattle.mps_tokens.specs.FieldsOf.{is_filled};
+ghost use Rattle.mps_tokens.specs.FieldsOf.{is_filled, fields_of};
 ghost use Rattle.mps_grammar.specs.Faults.{is_beyond};
 ghost use Rattle.mps_lines.specs.Notes.{IsSound};
-ghost use Rattle.mps_lines.specs.Steps.{TakesData, TakesIndented, TakesShown, TakesLine, LineDone};
+ghost use Rattle.mps_lines.specs.Steps.{sides_section, TakesData, TakesIndented, TakesContent, TakesShown, TakesLine};
 
 use crate::bounds::take_bounds;
 use crate::columns::take_columns;

@@ -1,0 +1,111 @@
+-- What a line does to what is kept.
+use Rattle.std.specs.Prelude.{◌≡◌, ℕ, ◌<◌, ◌≤◌, ◌&&◌, not, Bool, true, false, List, [], ◌∷◌, ◌++◌, length, Option, Some, None, Result, Ok, Err, ⊤, if◌then◌else◌}
+use Rattle.rational.specs.Rational.{ℚ}
+use Rattle.mps_tokens.specs.Lines.{without_return}
+use Rattle.mps_tokens.specs.Cases.{named}
+use Rattle.mps_tokens.specs.Words.{section_names}
+use Rattle.mps_tokens.specs.declared.words.Section.{Section}
+use Rattle.mps_tokens.specs.declared.words.Section.TheVariants as sections
+use Rattle.mps_tokens.specs.declared.words.RowKind.{RowKind}
+use Rattle.mps_tokens.specs.declared.words.BoundKind.{BoundKind}
+use Rattle.mps_grammar.specs.declared.kinds.FaultKind.{FaultKind}
+use Rattle.mps_grammar.specs.declared.kinds.FaultKind.TheVariants as kinds
+use Rattle.mps_grammar.specs.Lines.{is_comment}
+use Rattle.mps_grammar.specs.Fields.{Entries, Bounded}
+use Rattle.mps_grammar.specs.Told.{Told, names_of, used_names, set_of, first_named, is_used, with_sides, with_bound, bound_value}
+use Rattle.mps_grammar.specs.After.{told_more, told_within, told_header, told_content, told_shown, told_after}
+use Rattle.mps_grammar.specs.Faults.{Tests, first_of, named_row_tests, bounded_tests, of_number, is_no_number, is_past, data_tests, section_tests, header_tests, is_plain, content_tests, shown_tests, line_tests}
+use Rattle.mps_grammar.specs.Verdict.{is_end, ends}
+use Rattle.mps_lines.specs.declared.stop.LineStop.{LineStop}
+use Rattle.mps_lines.specs.declared.stop.LineStop.TheVariants as stops
+use Rattle.mps_lines.specs.declared.notes.Notes.{Notes}
+use Rattle.mps_lines.specs.declared.sides.Sides.{Sides}
+use Rattle.mps_lines.specs.declared.bounds.Bound.{Bound}
+use Rattle.mps_lines.specs.declared.bounds.Bounds.{Bounds}
+use Rattle.mps_lines.specs.Told.{tellings_of, AreEntries, text_in}
+use Rattle.mps_lines.specs.Notes.{no_column, told_in, IsSound}
+
+-- No test holds and all is done, or the fault is that of the first test that holds, or memory ran out.
+abbrev pub Judged : {A : Type 0} → Tests → (A → Type 0) → Result A LineStop → Type 0
+Judged tests done (Ok a) = (first_of tests ≡ None) × done a
+Judged tests done (Err stops.Memory) = ⊤
+Judged tests done (Err (stops.Fault kind)) = first_of tests ≡ Some kind
+
+-- what is kept is sound, and tells this
+pub record Holds (told : Told) (n : Notes) : Type 0 where
+  pub told_is : told_in n ≡ told
+  pub sound : IsSound n
+
+-- ---- data lines
+
+abbrev pub TakesData : Notes → Section → List (List ℕ) → Notes → Result Unit LineStop → Type 0
+TakesData old section fields new result = Judged (data_tests (told_in old) section fields) (λ done. Holds (told_more (told_in old) section fields) new) result
+
+-- a row with its kind and its name
+abbrev pub TakesNamed : Notes → RowKind → List ℕ → Notes → Result Unit LineStop → Type 0
+TakesNamed old kind name new result =
+    Judged (named_row_tests (told_in old) kind (Some name)) (λ done. Holds (record (told_in old) { rows = old.rows ++ (name, kind) ∷ [] }) new) result
+
+-- a new column is put last, or there are too many
+abbrev pub PlacesColumn : List (List ℕ × Bool) → List (List ℕ × Bool) → List ℕ → Bool → Result ℕ LineStop → Type 0
+PlacesColumn old new name marked (Ok place) = (place ≡ length old) × (place < 128) × (new ≡ old ++ (name, marked) ∷ [])
+PlacesColumn old new name marked (Err stops.Memory) = ⊤
+PlacesColumn old new name marked (Err (stops.Fault kind)) = (kind ≡ kinds.TooMany) × (128 ≤ length old)
+
+-- a line of right sides or ranges of these rows
+pub record SidesDone (rows : List (List ℕ × RowKind)) (old new : Sides) (line : ℕ) (sides : Option Entries) : Type 0 where
+  pub set : text_in new.set ≡ first_named (text_in old.set) (set_of sides)
+  pub entries : AreEntries no_column (names_of rows) (used_names rows) new.numbers
+  pub numbers : tellings_of no_column (names_of rows) new.numbers ≡ with_sides (text_in old.set) line sides (tellings_of no_column (names_of rows) old.numbers)
+
+abbrev pub sides_section : Bool → Section
+sides_section ranges = if ranges then sections.Ranges else sections.Rhs
+
+-- the number of a bound
+abbrev pub ReadsBound : Option (List ℕ) → Result ℚ FaultKind → Type 0
+ReadsBound number (Ok value) = (first_of ((of_number is_no_number number, kinds.NumberText) ∷ (of_number is_past number, kinds.NumberPast) ∷ []) ≡ None) × (value ≡ bound_value number)
+ReadsBound number (Err kind) = first_of ((of_number is_no_number number, kinds.NumberText) ∷ (of_number is_past number, kinds.NumberPast) ∷ []) ≡ Some kind
+
+-- a bound is put last, where its set is the used one
+pub record BoundDone (old new : Bounds) (set : List ℕ) (bound : Bound) : Type 0 where
+  pub set_is : text_in new.set ≡ first_named (text_in old.set) (Some set)
+  pub items_are : new.items.items ≡ (if is_used (text_in old.set) set then old.items.items ++ bound ∷ [] else old.items.items)
+
+abbrev pub TakesBounded : Notes → BoundKind → Bounded → Notes → Result Unit LineStop → Type 0
+TakesBounded old kind bounded new result =
+    Judged (bounded_tests (told_in old) (Some bounded))
+    (λ done. Holds (record (told_in old) {
+      bound_set = first_named (text_in old.bounds.set) (Some bounded.set);
+      bounds = with_bound (text_in old.bounds.set) (Some (kind, bounded)) (told_in old).bounds;
+    }) new) result
+
+abbrev pub is_half : Section → Bool
+is_half sections.DMatrix = true
+is_half other = false
+
+abbrev pub TakesIndented : Notes → List (List ℕ) → Notes → Result Unit LineStop → Type 0
+TakesIndented old fields new result =
+    Judged (section_tests (told_in old) old.sections.items fields) (λ done. Holds (told_within (told_in old) old.sections.items fields) new) result
+
+-- ---- headers
+
+abbrev pub is_end_section : Section → Bool
+is_end_section section = is_end (Some section)
+
+abbrev pub TakesHeader : Notes → List ℕ → Notes → Result Bool LineStop → Type 0
+TakesHeader old word new result =
+    Judged (header_tests (told_in old) (named section_names word)) (λ ended. Holds (told_header (told_in old) (named section_names word)) new × (ended ≡ is_end (named section_names word))) result
+
+-- ---- any line
+
+abbrev pub TakesContent : Notes → List ℕ → Notes → Result Bool LineStop → Type 0
+TakesContent old line new result = Judged (content_tests (told_in old) line) (λ ended. Holds (told_content (told_in old) line) new × (ended ≡ ends line)) result
+
+abbrev pub TakesShown : Notes → List ℕ → Notes → Result Bool LineStop → Type 0
+TakesShown old line new result =
+    Judged ((not (is_comment line) && not (is_plain line), kinds.NotAscii) ∷ shown_tests (told_in old) line) (λ ended. Holds (told_shown (told_in old) line) new × (ended ≡ ends line)) result
+
+-- a line that begins behind so many bytes, with its carriage return
+abbrev pub TakesLine : Notes → ℕ → List ℕ → Notes → Result Bool LineStop → Type 0
+TakesLine old at raw new result =
+    Judged (line_tests (told_in old) at raw) (λ ended. Holds (told_after (told_in old) (without_return raw)) new × (ended ≡ ends (without_return raw))) result
