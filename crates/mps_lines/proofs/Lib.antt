@@ -1,0 +1,4 @@
+pub mod NamedLemmas
+pub mod PlaceLemmas
+pub mod NameLemmas
+pub mod RowLemmas
