@@ -74,7 +74,7 @@ absent_used rows n e f = absent_head (unwrap_or (objective_in rows) []) n (names
 
 -- ---- the places
 
-place_other : (names : List (List ℕ)) (n m : List ℕ) → bytes_eq m n ≡ false → place_of (names ++ n ∷ []) m ≡ place_of names m
+pub place_other : (names : List (List ℕ)) (n m : List ℕ) → bytes_eq m n ≡ false → place_of (names ++ n ∷ []) m ≡ place_of names m
 place_other [] n m e = rw e refl
 place_other (x ∷ xs) n m e = ap (λ (o : Option ℕ). cond (bytes_eq m x) (Some 0) (option_map suc o)) (place_other xs n m e)
 
@@ -105,14 +105,14 @@ pub used_kept : (rows : Kinds) (n : List ℕ) (kind : RowKind) (m : List ℕ) �
 used_kept rows n kind m apart filled = by_kind (binds kind) refl
   where
     by_objective : (o : Option (List ℕ)) → binds kind ≡ false → objective_in rows ≡ o → place_of (used_names (rows ++ (n, kind) ∷ [])) m ≡ place_of (used_names rows) m
-    by_objective None b e = rw (used_free rows n kind None b e, e, apart, filled) refl
-    by_objective (Some x) b e = rw (used_free rows n kind (Some x) b e, e) refl
+    by_objective None b e = ap (λ (l : List (List ℕ)). place_of l m) (used_free rows n kind None b e) ∙ rw (e, apart, filled) refl
+    by_objective (Some x) b e = ap (λ (l : List (List ℕ)). place_of l m) (used_free rows n kind (Some x) b e) ∙ rw e refl
 
     by_kind : (b : Bool) → binds kind ≡ b → place_of (used_names (rows ++ (n, kind) ∷ [])) m ≡ place_of (used_names rows) m
     by_kind true b = ap (λ (l : List (List ℕ)). place_of l m) (used_bound rows n kind b) ∙ place_other (used_names rows) n m apart
     by_kind false b = by_objective (objective_in rows) b refl
 
-names_length : {A : Type 0} (things : List (List ℕ × A)) → length (names_of things) ≡ length things
+pub names_length : {A : Type 0} (things : List (List ℕ × A)) → length (names_of things) ≡ length things
 names_length [] = refl
 names_length (t ∷ ts) = ap suc (names_length ts)
 
@@ -127,7 +127,7 @@ pub place_objective : (rows : Kinds) (n : List ℕ) (kind : RowKind) → binds k
 place_objective rows n kind b none = by_objective (objective_in rows) refl none
   where
     by_objective : (o : Option (List ℕ)) → objective_in rows ≡ o → is_some o ≡ false → place_of (used_names (rows ++ (n, kind) ∷ [])) n ≡ Some 0
-    by_objective None e f = rw (used_free rows n kind None b e, eq_self n) refl
+    by_objective None e f = ap (λ (l : List (List ℕ)). place_of l n) (used_free rows n kind None b e) ∙ rw (eq_self n) refl
     by_objective (Some x) e f = absurd cc
 
 -- a further one isn't used
@@ -137,5 +137,69 @@ place_unused rows n kind b some absent filled = by_objective (objective_in rows)
     by_objective : (o : Option (List ℕ)) → objective_in rows ≡ o → is_some o ≡ true → place_of (used_names (rows ++ (n, kind) ∷ [])) n ≡ None
     by_objective None e f = absurd cc
     by_objective (Some x) e f =
-        let same : used_names (rows ++ (n, kind) ∷ []) ≡ used_names rows = rw (used_free rows n kind (Some x) b e, e) refl in
-        rw same (absent_used rows n absent filled)
+        let same : used_names (rows ++ (n, kind) ∷ []) ≡ used_names rows = used_free rows n kind (Some x) b e ∙ rw e refl in
+        ap (λ (l : List (List ℕ)). place_of l n) same ∙ absent_used rows n absent filled
+
+-- ---- what is kept of the rows
+
+pub all_push : {X : Type 0} (P : X → Type 0) (xs : List X) (x : X) → AllByRecursion P xs → P x → AllByRecursion P (xs ++ x ∷ [])
+all_push P [] x all here = (here, tt)
+all_push P (y ∷ ys) x all here = (all.0, all_push P ys x all.1 here)
+
+pub all_at : {X : Type 0} (P : X → Type 0) (xs : List X) (i : ℕ) (x : X) → AllByRecursion P xs → slice_get xs i ≡ Some x → P x
+all_at P [] i x all e = absurd cc
+all_at P (y ∷ ys) zero x all e = let same : y ≡ x = cc in rw (← same) all.0
+all_at P (y ∷ ys) (suc i) x all e = all_at P ys i x all.1 e
+
+pub get_cases : {X : Type 0} (xs : List X) (x y : X) (i : ℕ) → slice_get (xs ++ x ∷ []) i ≡ Some y → (slice_get xs i ≡ Some y) ⊎ (y ≡ x)
+get_cases [] x y zero e = inr cc
+get_cases [] x y (suc i) e = absurd cc
+get_cases (z ∷ zs) x y zero e = inl e
+get_cases (z ∷ zs) x y (suc i) e = get_cases zs x y i e
+
+pub name_filled : (n : List ℕ) → IsName n → bytes_eq n [] ≡ false
+name_filled n h = ne_from n [] (λ e. let none : length n ≡ 0 = ap length e in let some : 1 ≤ length n = h.some in omega arith)
+
+pub absent_at : {A : Type 0} (things : List (List ℕ × A)) (n : List ℕ) (i : ℕ) (t : List ℕ × A) → place_of (names_of things) n ≡ None → slice_get things i ≡ Some t → bytes_eq t.0 n ≡ false
+absent_at [] n i t absent e = absurd cc
+absent_at (x ∷ xs) n zero t absent e =
+    let p = absent_parts x.0 n (names_of xs) absent in
+    let same : x ≡ t = cc in
+    rw (← same) (ne_sym n x.0 p.0)
+absent_at (x ∷ xs) n (suc i) t absent e = absent_at xs n i t (absent_parts x.0 n (names_of xs) absent).1 e
+
+pub named_at : {A : Type 0} (things : List (List ℕ × A)) (i : ℕ) (t : List ℕ × A) → slice_get things i ≡ Some t → slice_get (names_of things) i ≡ Some t.0
+named_at [] i t e = absurd cc
+named_at (x ∷ xs) zero t e = let same : x ≡ t = cc in rw same refl
+named_at (x ∷ xs) (suc i) t e = named_at xs i t e
+
+pub placed_push : (rows : List (List ℕ × RowUse)) (n : List ℕ) (kept : RowUse) → AreNames (names_of rows) → place_of (names_of rows) n ≡ None → ArePlaced rows
+    → kept.place ≡ place_of (used_names (kinds_of (rows ++ (n, kept) ∷ []))) n → ArePlaced (rows ++ (n, kept) ∷ [])
+placed_push rows n kept names absent placed new i row e =
+    elim (get_cases rows (n, kept) row i e) [
+      | inl s ↦
+          let apart = absent_at rows n i row absent s in
+          let filled = name_filled row.0 (all_at IsName (names_of rows) i row.0 names (named_at rows i row s)) in
+          placed i row s ∙ sym (ap (λ (l : Kinds). place_of (used_names l) row.0) (kinds_push rows n kept) ∙ used_kept (kinds_of rows) n kept.kind row.0 apart filled)
+      | inr s ↦ rw s new
+    ]
+
+pub program_count : (rows : Kinds) (n : List ℕ) (kind : RowKind) → binds kind ≡ true → length (program_rows (rows ++ (n, kind) ∷ [])) ≡ length (program_rows rows) + 1
+program_count rows n kind b = ap length (program_push rows (n, kind) ∙ rw b refl) ∙ length-append (program_rows rows) ((n, kind) ∷ [])
+
+pub program_same : (rows : Kinds) (n : List ℕ) (kind : RowKind) → binds kind ≡ false → program_rows (rows ++ (n, kind) ∷ []) ≡ program_rows rows
+program_same rows n kind b = program_push rows (n, kind) ∙ rw b (append_none (program_rows rows))
+
+pub objective_same : (rows : Kinds) (n : List ℕ) (kind : RowKind) → binds kind ≡ true → is_some (objective_in (rows ++ (n, kind) ∷ [])) ≡ is_some (objective_in rows)
+objective_same rows n kind b = ap is_some (objective_push rows (n, kind)) ∙ rw b (same (objective_in rows))
+  where
+    same : (o : Option (List ℕ)) → is_some (either o None) ≡ is_some o
+    same None = refl
+    same (Some x) = refl
+
+pub objective_there : (rows : Kinds) (n : List ℕ) (kind : RowKind) → binds kind ≡ false → is_some (objective_in (rows ++ (n, kind) ∷ [])) ≡ true
+objective_there rows n kind b = ap is_some (objective_push rows (n, kind)) ∙ rw b (there (objective_in rows))
+  where
+    there : (o : Option (List ℕ)) → is_some (either o (Some n)) ≡ true
+    there None = refl
+    there (Some x) = refl

@@ -1,11 +1,12 @@
 // The rows, with what each of them is.
 
-ghost use Rattle.std.specs.Prelude.{◌≡◌, ◌≢◌, ◌<◌, ◌++◌, ◌∷◌, [], ◌&&◌, nat_le, is_some, None, Some, true, length, slice_get, IfSome, OnOk};
+ghost use Rattle.std.specs.Prelude.{◌≡◌, ◌≢◌, ◌<◌, ◌≤◌, ◌++◌, ◌∷◌, [], ◌&&◌, nat_le, is_some, None, Some, true, length, slice_get, IfSome, OnOk};
 ghost use Rattle.program_law.specs.Places.{place_of};
 ghost use Rattle.program_law.specs.Program.{IsName, marker};
 ghost use Rattle.mps_grammar.specs.Told.{names_of, binds, program_rows, objective_in, used_names};
 ghost use Rattle.mps_lines.specs.Named.{things_of};
 ghost use Rattle.mps_lines.specs.Names.{Differ, name_at};
+ghost use Rattle.mps_lines.specs.Entries.{place_after};
 
 use crate::named::Named;
 use frac_core::Memory;
@@ -53,6 +54,20 @@ pub(crate) fn is_bound(kind: RowKind) -> bool
     match kind {
         RowKind::Objective => false,
         RowKind::AtMost | RowKind::AtLeast | RowKind::Equal => true,
+    }
+}
+
+/// The place of a row that comes after so many rows of the program, and after an objective or before it.
+fn next_place(binds: bool, bound: usize, objective: bool) -> Option<usize>
+    requires { bound ≤ 128 }
+    ensures { result ≡ place_after binds bound objective }
+{
+    if binds {
+        Some(bound + 1)
+    } else if objective {
+        None
+    } else {
+        Some(0)
     }
 }
 
@@ -132,13 +147,7 @@ impl Rows {
         ensures { OnOk result (self.new ≡ self.old ++ (name.now, kind) ∷ []) }
     {
         let binds = is_bound(kind);
-        let place = if binds {
-            Some(self.bound + 1)
-        } else if self.objective {
-            None
-        } else {
-            Some(0)
-        };
+        let place = next_place(binds, self.bound, self.objective);
         let row = RowUse { kind, place };
         let name = Vec::from_slice(alloc, name)?;
         self.named.push(name, row)?;
