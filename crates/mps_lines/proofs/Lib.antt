@@ -6,3 +6,7 @@ pub mod RowsPushed
 pub mod RowsFound
 pub mod Marks
 pub mod Tellings
+pub mod Twice
+pub mod Puts
+pub mod Sound
+pub mod EntryLines

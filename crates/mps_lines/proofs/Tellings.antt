@@ -66,6 +66,15 @@ telling_grows columns rows more others used e h = rw (name_grows columns more e.
 pub tellings_grow : (columns rows more others used : List (List ℕ)) (es : List Entry) → AreEntries columns rows used es → tellings_of (columns ++ more) (rows ++ others) es ≡ tellings_of columns rows es
 tellings_grow columns rows more others used es all = ap reverse (map_same (IsEntry columns rows used) (telling_of (columns ++ more) (rows ++ others)) (telling_of columns rows) es all (λ e h. telling_grows columns rows more others used e h))
 
+-- with columns more, or with rows more
+pub tellings_columns : (columns rows more used : List (List ℕ)) (es : List Entry) → AreEntries columns rows used es → tellings_of (columns ++ more) rows es ≡ tellings_of columns rows es
+tellings_columns columns rows more used es all =
+    ap reverse (map_same (IsEntry columns rows used) (telling_of (columns ++ more) rows) (telling_of columns rows) es all (λ e h. rw (name_grows columns more e.column h.column) refl))
+
+pub tellings_rows : (columns rows more used : List (List ℕ)) (es : List Entry) → AreEntries columns rows used es → tellings_of columns (rows ++ more) es ≡ tellings_of columns rows es
+tellings_rows columns rows more used es all =
+    ap reverse (map_same (IsEntry columns rows used) (telling_of columns (rows ++ more)) (telling_of columns rows) es all (λ e h. rw (name_grows rows more e.row h.row) refl))
+
 longer : (names more : List (List ℕ)) (k : ℕ) → k < length names → k < length (names ++ more)
 longer names more k lt = omega (arith, length-append names more)
 

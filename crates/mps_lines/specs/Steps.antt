@@ -61,11 +61,19 @@ TakesItems old name pairs new result =
       entries = with_pairs number_of (old.lines + 1) name pairs (told_in old).entries;
     }) new) result
 
--- a new column is put last, or there are too many
+-- whether a column is one too many
+abbrev pub is_too_many : List (List ℕ × Bool) → List ℕ → Bool
+is_too_many columns name = is_none (place_of (names_of columns) name) && nat_le 128 (length columns)
+
+-- the columns with one of this name, which is put last where it is new
+abbrev pub with_name : List (List ℕ × Bool) → List ℕ → Bool → List (List ℕ × Bool)
+with_name columns name marked = if is_some (place_of (names_of columns) name) then columns else columns ++ (name, marked) ∷ []
+
+-- a column has its place, or there are too many
 abbrev pub PlacesColumn : List (List ℕ × Bool) → List (List ℕ × Bool) → List ℕ → Bool → Result ℕ LineStop → Type 0
-PlacesColumn old new name marked (Ok place) = (place ≡ length old) × (place < 128) × (new ≡ old ++ (name, marked) ∷ [])
+PlacesColumn old new name marked (Ok place) = (is_too_many old name ≡ false) × (place_of (names_of new) name ≡ Some place) × (new ≡ with_name old name marked)
 PlacesColumn old new name marked (Err stops.Memory) = ⊤
-PlacesColumn old new name marked (Err (stops.Fault kind)) = (kind ≡ kinds.TooMany) × (128 ≤ length old)
+PlacesColumn old new name marked (Err (stops.Fault kind)) = (kind ≡ kinds.TooMany) × (is_too_many old name ≡ true)
 
 -- a row that counts for what is given twice: the objective, or a row of the program
 abbrev pub is_counted : List (List ℕ × RowKind) → List ℕ → Bool

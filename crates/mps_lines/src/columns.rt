@@ -1,6 +1,6 @@
 // Lines of COLUMNS.
 
-ghost use Rattle.std.specs.Prelude.{◌≡◌, ◌+◌, ◌<◌, ◌^◌, List, true, false, length, None};
+ghost use Rattle.std.specs.Prelude.{◌≡◌, ◌+◌, ◌<◌, ◌≤◌, ◌^◌, List, true, false, length, IfOk};
 ghost use Rattle.std.specs.List.{list_all};
 ghost use Rattle.program_law.specs.Places.{place_of};
 ghost use Rattle.program_law.specs.Program.{IsName};
@@ -58,16 +58,22 @@ fn take_marker(notes: &mut Notes, fields: &Parts<'_>) -> Result<(), LineStop>
     Ok(())
 }
 
-/// Puts a new column last, and answers its place.
-fn add_column(
+/// The place of a column, which is put last where it wasn't found.
+fn place_column(
     alloc: Global,
     columns: &mut Named<bool>,
     name: &[u8],
     marked: bool,
+    found: Option<usize>,
 ) -> Result<usize, LineStop>
-    requires { place_of (names_of columns.old) name.now ≡ None }
-    ensures { PlacesColumn columns.old columns.new name.now marked result }
+    requires found { found ≡ place_of (names_of columns.old) name.now }
+    requires few { length columns.old ≤ 128 }
+    ensures column { PlacesColumn columns.old columns.new name.now marked result }
+    ensures within { IfOk result (λ j. j < 128) }
 {
+    if let Some(place) = found {
+        return Ok(place);
+    }
     let place = columns.len();
     if place >= MOST_COLUMNS {
         return Err(LineStop::Fault(FaultKind::TooMany));
@@ -92,14 +98,11 @@ fn take_items(
         TakesItems notes.old name.now pairs notes.new result }
 {
     let places = row_places(&notes.rows, items);
-    let column = notes.columns.find(name);
-    if gives_twice(&notes.entries, column, &places) {
+    let found = notes.columns.find(name);
+    if gives_twice(&notes.entries, found, &places) {
         return Err(LineStop::Fault(FaultKind::EntryTwice));
     }
-    let column = match column {
-        Some(column) => column,
-        None => add_column(alloc, &mut notes.columns, name, notes.begun)?,
-    };
+    let column = place_column(alloc, &mut notes.columns, name, notes.begun, found)?;
     put_items(&mut notes.entries, notes.lines + 1, column, items, &places)?;
     Ok(())
 }
