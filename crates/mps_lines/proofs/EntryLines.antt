@@ -8,9 +8,11 @@ use Rattle.mps_tokens.specs.declared.words.RowKind.{RowKind}
 use Rattle.mps_tokens.specs.Numbers.{number_of}
 use Rattle.mps_grammar.specs.declared.kinds.FaultKind.{FaultKind}
 use Rattle.mps_grammar.specs.declared.kinds.FaultKind.TheVariants as kinds
-use Rattle.mps_grammar.specs.Fields.{Pair}
-use Rattle.mps_grammar.specs.Told.{Told, Telling, names_of, used_names, is_told, with_pairs}
-use Rattle.mps_grammar.specs.Faults.{first_of, gives_twice}
+use Rattle.mps_tokens.specs.declared.words.Section.TheVariants as sections
+use Rattle.mps_grammar.specs.Fields.{Pair, is_marker, entries_in}
+use Rattle.mps_grammar.specs.Told.{Told, Telling, names_of, used_names, is_told, with_column, with_pairs}
+use Rattle.mps_grammar.specs.After.{told_more}
+use Rattle.mps_grammar.specs.Faults.{first_of, gives_twice, has_long, data_tests}
 use Rattle.mps_lines.specs.declared.numbers.Entry.{Entry}
 use Rattle.mps_lines.specs.declared.pairs.Item.{Item}
 use Rattle.mps_lines.specs.declared.pairs.Items.{Items}
@@ -20,13 +22,14 @@ use Rattle.mps_lines.specs.declared.stop.LineStop.{LineStop}
 use Rattle.mps_lines.specs.declared.stop.LineStop.TheVariants as stops
 use Rattle.mps_lines.specs.Names.{name_at}
 use Rattle.mps_lines.specs.Entries.{twice_at}
-use Rattle.mps_lines.specs.Resolved.{AreItems}
+use Rattle.mps_lines.specs.Resolved.{pair_tests, AreItems}
 use Rattle.mps_lines.specs.Placed.{row_place, second_place, row_places_of, items_entries}
 use Rattle.mps_lines.specs.Told.{tellings_of, AreEntries}
 use Rattle.mps_lines.specs.Notes.{told_in, IsSound}
-use Rattle.mps_lines.specs.Steps.{Holds, is_counted, item_tests, is_too_many, with_name, PlacesColumn, TakesItems}
+use Rattle.mps_lines.specs.Steps.{Holds, is_counted, item_tests, is_too_many, with_name, PlacesColumn, TakesItems, TakesData}
 use Rattle.mps_lines.proofs.PlaceLemmas.{place_pushed}
 use Rattle.mps_lines.proofs.RowLemmas.{names_push, names_length}
+use Rattle.mps_lines.proofs.Tests.{first_front, first_rest}
 use Rattle.mps_lines.proofs.Twice.{twice_same}
 use Rattle.mps_lines.proofs.Puts.{place_for, put_done}
 use Rattle.mps_lines.proofs.Sound.{keeps_columns, keeps_entries}
@@ -85,3 +88,26 @@ module _ (n : Notes) (name : List ℕ) (pairs : List Pair) (first : Item) (secon
       let done = keeps_entries (record n { columns = cols }) new (with_pairs number_of (n.lines + 1) name pairs (told_in n).entries) wide.sound put.entries told in
       let P : List (List ℕ × Bool) → Type 0 = λ l. Holds (record (told_in n) { columns = cols; entries = with_pairs number_of (n.lines + 1) name pairs (told_in n).entries }) (record n { columns = l; entries = new }) in
       (rw (e, p.0) refl, subst P (sym p.2) (record { told_is = done.told_is ∙ ap (λ (t : Told). record t { entries = with_pairs number_of (n.lines + 1) name pairs (told_in n).entries }) wide.told_is; sound = done.sound }))
+
+-- ---- a line of entries
+
+module _ (n new : Notes) (fields : List (List ℕ)) (name : List ℕ) (pairs : List Pair) (plain : is_marker fields ≡ false) (form : entries_in fields ≡ Some (name, pairs)) (short : has_long (name, pairs) ≡ false) where
+  rests : data_tests (told_in n) sections.Columns fields ≡ (false, kinds.NameLong) ∷ pair_tests (names_of n.rows) number_of pairs ++ item_tests (told_in n) name pairs
+  rests = rw (plain, form, short) refl
+
+  more : told_more (told_in n) sections.Columns fields ≡ record (told_in n) {
+    columns = with_column n.begun n.columns (Some (name, pairs));
+    entries = with_pairs number_of (n.lines + 1) name pairs (told_in n).entries;
+  }
+  more = rw (plain, form) refl
+
+  pub entries_fail : (kind : FaultKind) → first_of (pair_tests (names_of n.rows) number_of pairs) ≡ Some kind → first_of (data_tests (told_in n) sections.Columns fields) ≡ Some kind
+  entries_fail kind e = ap first_of rests ∙ first_front (pair_tests (names_of n.rows) number_of pairs) (item_tests (told_in n) name pairs) kind e
+
+  same_fault : first_of (pair_tests (names_of n.rows) number_of pairs) ≡ None → first_of (data_tests (told_in n) sections.Columns fields) ≡ first_of (item_tests (told_in n) name pairs)
+  same_fault e = ap first_of rests ∙ first_rest (pair_tests (names_of n.rows) number_of pairs) (item_tests (told_in n) name pairs) e
+
+  pub entries_go : (r : Result Unit LineStop) → first_of (pair_tests (names_of n.rows) number_of pairs) ≡ None → TakesItems n name pairs new r → TakesData n sections.Columns fields new r
+  entries_go (Ok u) e t = let P : Told → Type 0 = λ told. Holds told new in (same_fault e ∙ t.0, subst P (sym more) t.1)
+  entries_go (Err stops.Memory) e t = tt
+  entries_go (Err (stops.Fault kind)) e t = same_fault e ∙ t

@@ -10,3 +10,5 @@ pub mod Twice
 pub mod Puts
 pub mod Sound
 pub mod EntryLines
+pub mod Words
+pub mod Tests

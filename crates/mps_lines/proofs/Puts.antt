@@ -5,6 +5,7 @@ use Rattle.rational.specs.Rational.{ℚ}
 use Rattle.program_law.specs.Places.{place_of}
 use Rattle.mps_tokens.specs.declared.fault.NumberFault.{NumberFault}
 use Rattle.mps_tokens.specs.declared.words.RowKind.{RowKind}
+use Rattle.mps_grammar.specs.declared.kinds.FaultKind.{FaultKind}
 use Rattle.mps_grammar.specs.Fields.{Pair}
 use Rattle.mps_grammar.specs.Told.{Telling, value_or_zero, with_pairs, names_of, used_names}
 use Rattle.mps_lines.specs.declared.numbers.Entry.{Entry}
@@ -12,11 +13,11 @@ use Rattle.mps_lines.specs.declared.pairs.Item.{Item}
 use Rattle.mps_lines.specs.declared.pairs.Items.{Items}
 use Rattle.mps_lines.specs.declared.entries.Places.{Places}
 use Rattle.mps_lines.specs.Names.{Differ, name_at}
-use Rattle.mps_lines.specs.Resolved.{IsItem, AreItems}
+use Rattle.mps_lines.specs.Resolved.{IsItem, AreItems, Resolves}
 use Rattle.mps_lines.specs.Placed.{entry_at, second_entry, items_entries}
 use Rattle.mps_lines.specs.Told.{telling_of, tellings_of, IsEntry, AreEntries}
 use Rattle.mps_lines.proofs.PlaceLemmas.{place_below}
-use Rattle.mps_lines.proofs.RowLemmas.{all_push}
+use Rattle.mps_lines.proofs.RowLemmas.{all_push, names_length}
 use Rattle.mps_lines.proofs.Tellings.{name_from_place, tellings_push}
 
 -- the place of a second item's name, where there is one
@@ -76,3 +77,11 @@ items_within names read (p ∷ []) first (Some second) items = absurd items
 items_within names read (p ∷ q ∷ []) first None items = absurd items
 items_within names read (p ∷ q ∷ []) first (Some second) items = (place_below names p.0 first.place items.0.place, place_below names q.0 second.place items.1.place)
 items_within names read (p ∷ q ∷ r ∷ rest) first second items = absurd items
+
+-- what is resolved among names is resolved among the same names
+pub resolved : (names others : List (List ℕ)) (read : List ℕ → Result ℚ NumberFault) (pairs : List Pair) (r : Result Items FaultKind) → names ≡ others → Resolves names read pairs r → Resolves others read pairs r
+resolved names others read pairs r e h = let P : List (List ℕ) → Type 0 = λ l. Resolves l read pairs r in subst P e h
+
+-- the names of things are as many as the things
+pub within_length : {A : Type 0} (things : List (List ℕ × A)) (first : Item) (second : Option Item) → (first.place < length (names_of things)) × IfSome second (λ item. item.place < length (names_of things)) → (first.place < length things) × IfSome second (λ item. item.place < length things)
+within_length things first second h = let P : ℕ → Type 0 = λ k. (first.place < k) × IfSome second (λ item. item.place < k) in subst P (names_length things) h
