@@ -48,7 +48,7 @@ column_put old new name n marked j same absent few at is =
 
 -- ---- the items of a line
 
-second_is : (rows : List (List ℕ × RowKind)) (o : Option Item) → second_place rows o ≡ place_for (names_of rows) (used_names rows) o
+pub second_is : (rows : List (List ℕ × RowKind)) (o : Option Item) → second_place rows o ≡ place_for (names_of rows) (used_names rows) o
 second_is rows None = refl
 second_is rows (Some item) = refl
 

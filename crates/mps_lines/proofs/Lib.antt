@@ -12,3 +12,10 @@ pub mod Sound
 pub mod EntryLines
 pub mod Words
 pub mod Tests
+pub mod SideLines
+pub mod PairLines
+pub mod WholeLines
+pub mod RowLines
+pub mod BoundLines
+pub mod SixFields
+pub mod Contents

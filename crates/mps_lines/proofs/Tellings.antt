@@ -118,7 +118,7 @@ any_reverse : {X : Type 0} (p : X → Bool) (xs : List X) → list_any p (revers
 any_reverse p [] = refl
 any_reverse p (x ∷ xs) = ap (list_any p) (reverse-append (x ∷ []) xs) ∙ list_any-append p (reverse xs) (x ∷ []) ∙ or_swap (list_any p (reverse xs)) (p x) ∙ ap (λ (b : Bool). p x || b) (any_reverse p xs)
 
-eqb_comm : (a b : ℕ) → eqb a b ≡ eqb b a
+pub eqb_comm : (a b : ℕ) → eqb a b ≡ eqb b a
 eqb_comm a b = grind (arith, nat_tests)
 
 module _ (columns rows used : List (List ℕ)) (c r : List ℕ) where

@@ -5,7 +5,7 @@ ghost use Rattle.program_law.specs.Places.{place_of};
 ghost use Rattle.program_law.specs.Program.{IsName, marker};
 ghost use Rattle.mps_grammar.specs.Told.{names_of, binds, program_rows, objective_in, used_names};
 ghost use Rattle.mps_lines.specs.Named.{things_of};
-ghost use Rattle.mps_lines.specs.Names.{Differ, name_at};
+ghost use Rattle.mps_lines.specs.Names.{Differ, AreNames, name_at};
 ghost use Rattle.mps_lines.specs.Entries.{place_after};
 
 use crate::named::Named;
@@ -93,6 +93,7 @@ impl Rows {
     pub(crate) fn names(&self) -> &Named<RowUse>
         ensures names { names_of result.now ≡ names_of self.now }
         ensures differ { Differ (names_of self.now) }
+        ensures good { AreNames (names_of self.now) }
     {
         &self.named
     }

@@ -8,3 +8,6 @@ returns-clause-names c = sym (names_kinds c.self.inside.named) ∙ ap names_of c
 
 pub returns-clause-differ : goal.returns-clause-differ
 returns-clause-differ c = rw (← c.self.view_is, names_kinds c.self.inside.named) c.self.invariant.differ
+
+pub returns-clause-good : goal.returns-clause-good
+returns-clause-good c = rw (← c.self.view_is, names_kinds c.self.inside.named) c.self.invariant.names
