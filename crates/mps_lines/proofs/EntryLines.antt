@@ -84,7 +84,7 @@ module _ (n : Notes) (name : List ℕ) (pairs : List Pair) (first : Item) (secon
       let at : place_of (names_of cols) name ≡ Some j = ap (λ (l : List (List ℕ × Bool)). place_of (names_of l) name) (sym p.2) ∙ p.1 in
       let put = put_done (names_of cols) (names_of n.rows) (used_names n.rows) name (n.lines + 1) j number_of at n.entries new pairs first second one other wide.sound.entries items f (g ∙ second_is n.rows second) is in
       let told : tellings_of (names_of cols) (names_of n.rows) new ≡ with_pairs number_of (n.lines + 1) name pairs (told_in n).entries =
-          put.numbers ∙ ap (λ (ts : List Telling). with_pairs number_of (n.lines + 1) name pairs ts) (ap (λ (t : Told). t.entries) wide.told_is) in
+      put.numbers ∙ ap (λ (ts : List Telling). with_pairs number_of (n.lines + 1) name pairs ts) (ap (λ (t : Told). t.entries) wide.told_is) in
       let done = keeps_entries (record n { columns = cols }) new (with_pairs number_of (n.lines + 1) name pairs (told_in n).entries) wide.sound put.entries told in
       let P : List (List ℕ × Bool) → Type 0 = λ l. Holds (record (told_in n) { columns = cols; entries = with_pairs number_of (n.lines + 1) name pairs (told_in n).entries }) (record n { columns = l; entries = new }) in
       (rw (e, p.0) refl, subst P (sym p.2) (record { told_is = done.told_is ∙ ap (λ (t : Told). record t { entries = with_pairs number_of (n.lines + 1) name pairs (told_in n).entries }) wide.told_is; sound = done.sound }))

@@ -19,3 +19,4 @@ pub mod RowLines
 pub mod BoundLines
 pub mod SixFields
 pub mod Contents
+pub mod Histories

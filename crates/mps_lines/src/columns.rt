@@ -84,12 +84,7 @@ fn place_column(
 }
 
 /// The items of a line of entries for a column with this name.
-fn take_items(
-    alloc: Global,
-    notes: &mut Notes,
-    name: &[u8],
-    items: &Items,
-) -> Result<(), LineStop>
+fn take_items(alloc: Global, notes: &mut Notes, name: &[u8], items: &Items) -> Result<(), LineStop>
     requires sound { IsSound notes.old }
     requires few { notes.old.lines + 1 < 2 ^ 32 }
     requires name { IsName name.now }

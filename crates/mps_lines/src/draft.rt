@@ -148,6 +148,9 @@ impl Draft {
     pub fn gives_pairs_once(&self) -> bool
         ensures { result ≡ gives_pairs_once self.now }
     {
-        self.notes.sections.iter().any(|section| gives_once(*section))
+        self.notes
+            .sections
+            .iter()
+            .any(|section| gives_once(*section))
     }
 }

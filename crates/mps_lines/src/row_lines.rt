@@ -25,12 +25,7 @@ fn is_marker_name(name: &[u8]) -> bool
 }
 
 /// A row of this kind.
-fn take_named(
-    alloc: Global,
-    notes: &mut Notes,
-    kind: RowKind,
-    name: &[u8],
-) -> Result<(), LineStop>
+fn take_named(alloc: Global, notes: &mut Notes, kind: RowKind, name: &[u8]) -> Result<(), LineStop>
     requires sound { IsSound notes.old }
     requires word { is_word name.now ≡ true }
     ensures { TakesNamed notes.old kind name.now notes.new result }

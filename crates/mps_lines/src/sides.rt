@@ -51,11 +51,7 @@ pub(crate) fn is_used(set: &Option<Vec<u8>>, name: &[u8]) -> bool
 }
 
 /// Keeps the name of the used set, where this is the first line.
-pub(crate) fn name_set(
-    alloc: Global,
-    set: &mut Option<Vec<u8>>,
-    name: &[u8],
-) -> Result<(), Memory>
+pub(crate) fn name_set(alloc: Global, set: &mut Option<Vec<u8>>, name: &[u8]) -> Result<(), Memory>
     ensures { OnOk result (text_in set.new ≡ first_named (text_in set.old) (Some name.now)) }
 {
     if set.is_none() {
@@ -103,7 +99,7 @@ pub(crate) fn take_sides(
     requires entries { AreEntries no_column (names_of rows.now) (used_names rows.now) sides.old.numbers }
     ensures { (told : Told) → told.rows ≡ rows.now →
         Judged (side_tests told (text_in sides.old.set) (tellings_of no_column (names_of rows.now) sides.old.numbers) (sides_in fields.now))
-            (λ done. SidesDone rows.now sides.old sides.new line (sides_in fields.now)) result }
+        (λ done. SidesDone rows.now sides.old sides.new line (sides_in fields.now)) result }
 {
     let Some(entries) = sides_of(fields) else {
         return Err(LineStop::Fault(FaultKind::Fields));

@@ -70,11 +70,7 @@ fn take_data(
 }
 
 /// A data line, which stands in the section that was begun last.
-fn take_indented(
-    alloc: Global,
-    notes: &mut Notes,
-    fields: &Parts<'_>,
-) -> Result<(), LineStop>
+fn take_indented(alloc: Global, notes: &mut Notes, fields: &Parts<'_>) -> Result<(), LineStop>
     requires sound { IsSound notes.old }
     requires few { notes.old.lines + 1 < 2 ^ 32 }
     requires some { 0 < length fields.now }

@@ -20,7 +20,7 @@ returns-in_err-column c = λ pairs items.
     let places = c.row_places-places.ensures.places in
     let p = err_from_is_err_and c.from_residual.result c.from_residual.ensures.1 in
     let test : gives_twice (is_counted n.rows) (is_told (told_in n).entries c.args.name.now) pairs ≡ false =
-        test_from n c.args.name.now pairs c.args.items.now.first c.args.items.now.second c.requires.sound items _ _ _ _ c.find-found.ensures.place (ap (λ p. p.first) places) (ap (λ p. p.second) places) c.if-gives_twice.ensures in
+    test_from n c.args.name.now pairs c.args.items.now.first c.args.items.now.second c.requires.sound items _ _ _ _ c.find-found.ensures.place (ap (λ p. p.first) places) (ap (λ p. p.second) places) c.if-gives_twice.ensures in
     rw (p.1, p.2) (column_fails n c.args.name.now pairs c.args.items.now.first c.args.items.now.second c.requires.sound items c.place_column.new.columns (record n { columns = c.place_column.new.columns }) c.in_err-column.field-0.0 test c.in_err-column.ensures.column)
 
 pub returns : goal.returns
@@ -28,5 +28,5 @@ returns c = λ pairs items.
     let n = c.args.notes.now in
     let places = c.row_places-places.ensures.places in
     let test : gives_twice (is_counted n.rows) (is_told (told_in n).entries c.args.name.now) pairs ≡ false =
-        test_from n c.args.name.now pairs c.args.items.now.first c.args.items.now.second c.requires.sound items _ _ _ _ c.find-found.ensures.place (ap (λ p. p.first) places) (ap (λ p. p.second) places) c.if-gives_twice.ensures in
+    test_from n c.args.name.now pairs c.args.items.now.first c.args.items.now.second c.requires.sound items _ _ _ _ c.find-found.ensures.place (ap (λ p. p.first) places) (ap (λ p. p.second) places) c.if-gives_twice.ensures in
     items_put n c.args.name.now pairs c.args.items.now.first c.args.items.now.second c.requires.sound items c.place_column.new.columns _ _ _ c.put_items.new.numbers c.requires.name test c.in_ok-column.ensures.column (ap (λ p. p.first) places) (ap (λ p. p.second) places) c.in_ok-put_items.ensures

@@ -1,7 +1,8 @@
-use Rattle.std.proofs.Common.{◌≡◌, Some, List, ℕ, ◌<◌, length, sym, ap, ◌∙◌, take, arith, length-take}
+use Rattle.std.proofs.Common.{◌≡◌, Some, Ok, Err, List, ℕ, ◌<◌, length, sym, ap, subst, ◌∙◌, take, arith, length-take}
 use Rattle.std.specs.Prelude.{slice_get}
 use Rattle.std.proofs.lemmas.Result.{err_from_is_err_and}
 use Rattle.mps_tokens.specs.FieldsOf.{fields_of}
+use Rattle.mps_lines.specs.Steps.{TakesIndented}
 use Rattle.mps_lines.proofs.Contents.{indented_ok, indented_err, header_done}
 use Rattle.mps_lines.proofs.SixFields.{first_field}
 use Rattle.mps_lines.proofs.taking.take_content.Goals as goal
@@ -9,10 +10,13 @@ use Rattle.mps_lines.proofs.taking.take_content.Goals as goal
 pub returns-in_err-take_indented : goal.returns-in_err-take_indented
 returns-in_err-take_indented c =
     let p = err_from_is_err_and c.from_residual.result c.from_residual.ensures.1 in
-    rw (p.1, p.2) (indented_err c.args.notes.now c.take_indented.new.notes c.args.line.now (sym c.if-is_indented.ensures) c.in_err-take_indented.field-0.0 (rw (← c.requires.fields) c.in_err-take_indented.ensures))
+    let P : List (List ℕ) → Type 0 = λ fields. TakesIndented c.args.notes.now fields c.take_indented.new.notes (Err c.in_err-take_indented.field-0.0) in
+    rw (p.1, p.2) (indented_err c.args.notes.now c.take_indented.new.notes c.args.line.now (sym c.if-is_indented.ensures) c.in_err-take_indented.field-0.0 (subst P c.requires.fields c.in_err-take_indented.ensures))
 
 pub returns-in_ok-take_indented : goal.returns-in_ok-take_indented
-returns-in_ok-take_indented c = indented_ok c.args.notes.now c.take_indented.new.notes c.args.line.now (sym c.if-is_indented.ensures) (rw (← c.requires.fields) c.in_ok-take_indented.ensures)
+returns-in_ok-take_indented c =
+    let P : List (List ℕ) → Type 0 = λ fields. TakesIndented c.args.notes.now fields c.take_indented.new.notes (Ok tt) in
+    indented_ok c.args.notes.now c.take_indented.new.notes c.args.line.now (sym c.if-is_indented.ensures) (subst P c.requires.fields c.in_ok-take_indented.ensures)
 
 pub returns-else-is_indented : goal.returns-else-is_indented
 returns-else-is_indented c =
