@@ -48,3 +48,9 @@ abbrev pub Tells : Result (Told × Spot) Fault → Result (Draft × Place) ReadS
 Tells told (Ok d) = told ≡ Ok (d.0, spot_of d.1)
 Tells told (Err stops.Memory) = ⊤
 Tells told (Err (stops.Fault line kind)) = told ≡ Err (line, kind)
+
+-- a place of a text: each line before it has a byte at least
+pub record IsPlaceIn (text : List ℕ) (place : Place) : Type 0 where
+  pub within : place.byte ≤ length text
+  pub counted : 1 ≤ place.line
+  pub early : place.line ≤ place.byte + 1

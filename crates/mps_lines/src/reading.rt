@@ -1,7 +1,7 @@
 // Reading a text up to ENDATA.
 
-ghost use Rattle.std.specs.Prelude.{◌≡◌, ◌≤◌, ◌^◌, length};
-ghost use Rattle.mps_lines.specs.Reading.{read_stop, TellsNotes, Tells, spot_of, spot_in};
+ghost use Rattle.std.specs.Prelude.{◌≡◌, ◌+◌, ◌≤◌, ◌<◌, ◌^◌, length, IfOk, IfSome};
+ghost use Rattle.mps_lines.specs.Reading.{read_stop, TellsNotes, Tells, IsPlaceIn, spot_of, spot_in};
 ghost use Rattle.mps_grammar.specs.Lines.{is_passed};
 ghost use Rattle.mps_grammar.specs.Reading.{told_of, rest_of};
 
@@ -27,7 +27,8 @@ fn stop_at(line: u32, stop: LineStop) -> ReadStop
 /// What the lines up to ENDATA tell, and the place behind them.
 fn notes_of(alloc: Global, text: &[u8]) -> Result<(Notes, Place), ReadStop>
     requires { length text.now ≤ 2 ^ 30 }
-    ensures { TellsNotes (told_of text.now) result }
+    ensures tells { TellsNotes (told_of text.now) result }
+    ensures place { IfOk result (λ n. IsPlaceIn text.now n.1) }
 {
     let Ok(mut notes) = Notes::start(alloc) else {
         return Err(ReadStop::Memory);
@@ -36,9 +37,10 @@ fn notes_of(alloc: Global, text: &[u8]) -> Result<(Notes, Place), ReadStop>
     while at < text.len() {
         let whole = whole_line(text, at);
         let bytes = &text[whole.line.begin..whole.line.end];
+        let number = notes.lines + 1;
         let ended = match take_line(alloc, &mut notes, bytes, is_beyond(at, whole.end)) {
             Ok(ended) => ended,
-            Err(stop) => return Err(stop_at(notes.lines + 1, stop)),
+            Err(stop) => return Err(stop_at(number, stop)),
         };
         at = whole.line.next;
         if ended {
@@ -61,7 +63,8 @@ fn notes_of(alloc: Global, text: &[u8]) -> Result<(Notes, Place), ReadStop>
 /// The fault of the first line that has one, or that there is no ENDATA; else `Memory`.
 pub fn told(alloc: Global, text: &[u8]) -> Result<(Draft, Place), ReadStop>
     requires { length text.now ≤ 2 ^ 30 }
-    ensures { Tells (told_of text.now) result }
+    ensures tells { Tells (told_of text.now) result }
+    ensures place { IfOk result (λ t. IsPlaceIn text.now t.1) }
 {
     let (notes, place) = notes_of(alloc, text)?;
     Ok((Draft::of(notes), place))
@@ -78,8 +81,9 @@ fn is_passed(line: &[u8]) -> bool
 pub fn rest(text: &[u8], place: Place) -> Option<Place>
     requires text { length text.now ≤ 2 ^ 30 }
     requires byte { place.byte ≤ length text.now }
-    requires line { place.line ≤ 2 ^ 30 }
-    ensures { spot_in result ≡ rest_of text.now (spot_of place) }
+    requires line { place.line ≤ 2 ^ 31 }
+    ensures first { spot_in result ≡ rest_of text.now (spot_of place) }
+    ensures within { IfSome result (λ p. (p.byte < length text.now) × (p.line + place.byte ≤ place.line + p.byte)) }
 {
     let mut at = place.byte;
     let mut line = place.line;
