@@ -20,7 +20,7 @@ use Rattle.mps_reader.specs.Bounding.{bounding_of, boundings_of}
 use Rattle.mps_reader.specs.ByRow.{rights_of}
 use Rattle.mps_reader.specs.Assembled.{blank, assembled}
 use Rattle.mps_reader.specs.Built.{AreSides, rows_built, columns_built}
-use Rattle.mps_reader.proofs.Names.{eq_self, eq_from, ne_from, none_some, absent_parts, absent_head}
+use Rattle.mps_lines.proofs.NameLemmas.{eq_self, eq_from, ne_from, none_some, absent_parts, absent_head}
 use Rattle.mps_reader.proofs.Tellings.{place-name_at}
 use Rattle.mps_reader.proofs.Programs.{map-push, blank-row, blank-column, assembled-start}
 use Rattle.mps_reader.proofs.UsedNames.{absent-bound, used-differ}

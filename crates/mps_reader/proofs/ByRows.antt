@@ -19,7 +19,7 @@ use Rattle.mps_lines.specs.Notes.{no_column}
 use Rattle.mps_reader.specs.ByRow.{rights_of, ranges_of}
 use Rattle.mps_reader.specs.declared.columns.Bounding.{Bounding}
 use Rattle.mps_reader.specs.Bounding.{bounding_of, boundings_of}
-use Rattle.mps_reader.proofs.Names.{eq_self, ne_sym}
+use Rattle.mps_lines.proofs.NameLemmas.{eq_self, ne_sym}
 use Rattle.mps_reader.proofs.Tables.{changed_to}
 use Rattle.mps_reader.proofs.Tellings.{reversed-more, each_at, place-name_at}
 

@@ -20,7 +20,7 @@ use Rattle.mps_reader.specs.ByRow.{rights_of}
 use Rattle.mps_reader.specs.Assembled.{square_of}
 use Rattle.mps_reader.proofs.Programs.{square-place}
 use Rattle.mps_reader.proofs.ByRows.{length_names}
-use Rattle.mps_reader.proofs.Names.{eq_self, ne_from, none_some}
+use Rattle.mps_lines.proofs.NameLemmas.{eq_self, ne_from, none_some}
 use Rattle.mps_reader.proofs.Tellings.{reversed-more, each_at, place-name_at}
 
 -- ---- lists

@@ -10,7 +10,7 @@ use Rattle.mps_lines.specs.declared.numbers.Entry.{Entry}
 use Rattle.mps_lines.specs.Names.{Differ, name_at}
 use Rattle.mps_lines.specs.Told.{telling_of, tellings_of, IsEntry, AreEntries}
 use Rattle.mps_reader.specs.Assembled.{assembled, with_placed}
-use Rattle.mps_reader.proofs.Names.{place_below}
+use Rattle.mps_lines.proofs.PlaceLemmas.{place_below}
 use Rattle.mps_reader.proofs.Tellings.{reversed-more, each_at, place-name_at}
 use Rattle.mps_reader.proofs.Programs.{assembled-entry, assembled-unused, assembled-pair, map-length}
 use Rattle.mps_reader.proofs.ByRows.{length_names}

@@ -11,7 +11,7 @@ use Rattle.mps_grammar.specs.Told.{Told, Telling, is_at, is_told}
 use Rattle.mps_grammar.specs.Programs.{or_other, value_at, value_told, pair_value, gives_pairs_once, is_lopsided, first_line}
 use Rattle.mps_reader.specs.Assembled.{last_value}
 use Rattle.mps_reader.specs.Sound.{AreToldOnce}
-use Rattle.mps_reader.proofs.Names.{eq_from}
+use Rattle.mps_lines.proofs.NameLemmas.{eq_from}
 
 -- ---- pairs that are told once
 

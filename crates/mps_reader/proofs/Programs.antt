@@ -15,7 +15,7 @@ use Rattle.mps_grammar.specs.Programs.{value_told, objective_of, row_of, column_
 use Rattle.mps_lines.specs.Names.{Differ}
 use Rattle.mps_reader.specs.Assembled.{numbers_in, last_value, square_of, assembled, with_number, blank}
 use Rattle.mps_reader.specs.Sound.{AreToldOnce}
-use Rattle.mps_reader.proofs.Names.{eq_self, eq_sym, ne_sym, place_behind, place_first, absent_parts}
+use Rattle.mps_lines.proofs.NameLemmas.{eq_self, eq_sym, ne_sym, place_behind, place_first, absent_parts}
 use Rattle.mps_reader.proofs.Tables.{unchanged, changed_at}
 use Rattle.mps_reader.proofs.Pairs.{IsLevel, last-pair}
 

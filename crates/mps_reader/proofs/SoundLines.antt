@@ -26,7 +26,7 @@ use Rattle.mps_grammar.specs.Verdict.{Fault, is_end, ends, unless, verdict, verd
 use Rattle.mps_grammar.specs.Reading.{Spot, behind, told_verdict, told_of}
 use Rattle.mps_grammar.proofs.After.{told_line}
 use Rattle.mps_reader.specs.Sound.{AreToldOnce, HaveOneQuadratic, IsSound}
-use Rattle.mps_reader.proofs.Names.{eq_from, ne_sym, ne_from, ne_eq}
+use Rattle.mps_lines.proofs.NameLemmas.{eq_from, ne_sym, ne_from, ne_eq}
 use Rattle.mps_reader.proofs.Additions.{filter-push}
 
 -- ---- tests that fail

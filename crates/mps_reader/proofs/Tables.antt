@@ -6,7 +6,7 @@ use Rattle.std.specs.Str.{bytes_eq}
 use Rattle.program_law.specs.Places.{place_of}
 use Rattle.program_law.specs.Changes.{renewed}
 use Rattle.mps_lines.specs.Names.{Differ}
-use Rattle.mps_reader.proofs.Names.{absent_parts, eq_from}
+use Rattle.mps_lines.proofs.NameLemmas.{absent_parts, eq_from}
 
 -- nothing is different where the name doesn't stand
 pub unchanged : {X A : Type 0} (name : X → List ℕ) (f g : X → A) (m : List ℕ) (xs : List X) → place_of (map name xs) m ≡ None → ((x : X) → bytes_eq m (name x) ≡ false → g x ≡ f x) → map g xs ≡ map f xs

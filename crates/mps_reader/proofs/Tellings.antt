@@ -9,7 +9,7 @@ use Rattle.mps_tokens.specs.declared.words.RowKind.{RowKind}
 use Rattle.mps_tokens.specs.Cases.{named}
 use Rattle.mps_grammar.specs.Told.{names_of}
 use Rattle.mps_lines.specs.Names.{Differ, name_at}
-use Rattle.mps_reader.proofs.Names.{eq_self, ne_eq, ne_from, none_some}
+use Rattle.mps_lines.proofs.NameLemmas.{eq_self, ne_eq, ne_from, none_some}
 
 -- one more of them
 pub reversed-more : {X Y : Type 0} (f : X → Y) (xs : List X) (k : ℕ) (d : X) → k < length xs → reverse (map f (take (k + 1) xs)) ≡ f (get_or xs k d) ∷ reverse (map f (take k xs))

@@ -7,7 +7,7 @@ use Rattle.program_law.specs.Places.{place_of}
 use Rattle.mps_tokens.specs.declared.words.RowKind.{RowKind}
 use Rattle.mps_grammar.specs.Told.{names_of, binds, program_rows, objective_in, used_names}
 use Rattle.mps_lines.specs.Names.{Differ}
-use Rattle.mps_reader.proofs.Names.{eq_self, eq_from, ne_from, ne_sym, absent_parts, absent_head}
+use Rattle.mps_lines.proofs.NameLemmas.{eq_self, eq_from, ne_from, ne_sym, absent_parts, absent_head}
 
 -- a name that isn't there isn't among the rows of the program
 pub absent-bound : (rows : List (List ℕ × RowKind)) (name : List ℕ) → place_of (names_of rows) name ≡ None → place_of (names_of (program_rows rows)) name ≡ None

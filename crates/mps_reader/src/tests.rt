@@ -3,6 +3,9 @@ use frac_core::Frac;
 use program_model::Program;
 
 fn program_of(rt: &HostRuntime, text: &str) -> Option<Program> {
+    if text.len() > 1000 {
+        return None;
+    }
     match read(rt.alloc(), text.as_bytes()) {
         Ok((program, _)) => Some(program),
         Err(_) => None,
@@ -10,6 +13,9 @@ fn program_of(rt: &HostRuntime, text: &str) -> Option<Program> {
 }
 
 fn has_fault(rt: &HostRuntime, text: &str, at: u32, fault: FaultKind) -> bool {
+    if text.len() > 1000 {
+        return false;
+    }
     match read(rt.alloc(), text.as_bytes()) {
         Err(ReadStop::Fault { line, kind }) => line == at && kind == fault,
         _ => false,
