@@ -1,0 +1,9 @@
+pub mod Numbers
+pub mod Text
+pub mod Appending
+pub mod Parts
+pub mod Places
+pub mod Faults
+pub mod Told
+pub mod Reading
+pub mod Writable

@@ -1,0 +1,12 @@
+//! The text of a certificate: written, and read with the first line that leaves the grammar.
+#![tactic(auto)]
+
+mod draft;
+mod items;
+mod kinds;
+mod lines;
+mod names;
+mod openings;
+mod places;
+
+pub use kinds::{CertKind, CertStop};
