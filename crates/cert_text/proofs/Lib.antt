@@ -1,1 +1,4 @@
 pub mod Worked
+pub mod NameLemmas
+pub mod Appended
+pub mod CertificateTexts

@@ -1,5 +1,5 @@
 -- The text of a certificate: its lines in order, each as fields with one blank between two.
-use Rattle.std.specs.Prelude.{ℕ, List, [], ◌∷◌, ◌++◌, slice_index_or, codes, if◌then◌else◌}
+use Rattle.std.specs.Prelude.{ℕ, List, [], ◌∷◌, ◌++◌, length, slice_index_or, codes, if◌then◌else◌}
 use Rattle.std.specs.List.{flat_map, join_with_byte}
 use Rattle.std.specs.Fmt.{signed_decimal}
 use Rattle.rational.specs.Rational.{ℚ}
@@ -24,14 +24,23 @@ abbrev pub names_on : Program → Axis → List (List ℕ)
 names_on p Columns = names_of p.columns
 names_on p Rows = names_of p.rows
 
+-- how many there are
+abbrev pub count_on : Program → Axis → ℕ
+count_on p Columns = length p.columns
+count_on p Rows = length p.rows
+
 abbrev pub name_at : List (List ℕ) → ℕ → List ℕ
 name_at names j = slice_index_or names j []
 
--- a line for each entry that isn't 0, with the name of its column or row
+-- the line of an entry, and none where it is 0
+abbrev pub entry_line : List ℕ → List ℕ → ℚ → Lines
+entry_line word name v = if is_zero v then [] else (word ∷ name ∷ text_of v ∷ []) ∷ []
+
+-- the lines of the entries, each with the name of its column or row
 abbrev pub entry_lines : List ℕ → List (List ℕ) → List ℚ → Lines
 entry_lines word [] values = []
 entry_lines word (name ∷ names) [] = []
-entry_lines word (name ∷ names) (v ∷ vs) = (if is_zero v then [] else (word ∷ name ∷ text_of v ∷ []) ∷ []) ++ entry_lines word names vs
+entry_lines word (name ∷ names) (v ∷ vs) = entry_line word name v ++ entry_lines word names vs
 
 abbrev pub square_lines : Program → Square → Lines
 square_lines p s = (codes "SQUARE" ∷ text_of s.weight ∷ []) ∷ entry_lines (codes "COEF") (names_on p Columns) s.coef

@@ -8,5 +8,7 @@ mod lines;
 mod names;
 mod openings;
 mod places;
+mod writing;
 
+pub use writing::write_certificate;
 pub use kinds::{CertKind, CertStop};

@@ -42,3 +42,72 @@ fn push_whole(out: &mut Vec<u8>, text: &mut String, number: i128) -> Result<(), 
     write!(text, "{number}")?;
     push_field(out, text.as_bytes())
 }
+
+/// Appends the end of a line.
+fn put_end(out: &mut Vec<u8>) -> Result<(), Memory>
+    ensures { Appends out.old.items out.new.items (10 ∷ []) result }
+{
+    push(out, b"\n")
+}
+
+/// Appends the line of a word.
+pub(crate) fn put_word(out: &mut Vec<u8>, word: &[u8]) -> Result<(), Memory>
+    ensures { Appends out.old.items out.new.items (line_text (word.now ∷ [])) result }
+{
+    push(out, word)?;
+    put_end(out)
+}
+
+/// Appends the line of a word and a number.
+pub(crate) fn put_number(
+    out: &mut Vec<u8>,
+    text: &mut String,
+    word: &[u8],
+    number: Frac,
+) -> Result<(), Memory>
+    ensures { Appends out.old.items out.new.items (line_text (word.now ∷ text_of number ∷ [])) result }
+{
+    push(out, word)?;
+    push_number(out, text, number)?;
+    put_end(out)
+}
+
+/// Appends the line of a word and a name.
+pub(crate) fn put_name(out: &mut Vec<u8>, word: &[u8], name: &[u8]) -> Result<(), Memory>
+    ensures { Appends out.old.items out.new.items (line_text (word.now ∷ name.now ∷ [])) result }
+{
+    push(out, word)?;
+    push_field(out, name)?;
+    put_end(out)
+}
+
+/// Appends the line of an entry: a word, a name and a number.
+pub(crate) fn put_entry(
+    out: &mut Vec<u8>,
+    text: &mut String,
+    word: &[u8],
+    name: &[u8],
+    number: Frac,
+) -> Result<(), Memory>
+    ensures { Appends out.old.items out.new.items (line_text (word.now ∷ name.now ∷ text_of number ∷ [])) result }
+{
+    push(out, word)?;
+    push_field(out, name)?;
+    push_number(out, text, number)?;
+    put_end(out)
+}
+
+/// Appends the line of a branch.
+pub(crate) fn put_branch(
+    out: &mut Vec<u8>,
+    text: &mut String,
+    name: &[u8],
+    k: i128,
+) -> Result<(), Memory>
+    ensures { Appends out.old.items out.new.items (line_text (codes "BRANCH" ∷ name.now ∷ signed_decimal k ∷ [])) result }
+{
+    push(out, b"BRANCH")?;
+    push_field(out, name)?;
+    push_whole(out, text, k)?;
+    put_end(out)
+}
