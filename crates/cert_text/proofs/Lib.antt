@@ -2,3 +2,6 @@ pub mod Worked
 pub mod NameLemmas
 pub mod Appended
 pub mod CertificateTexts
+pub mod Pieces
+pub mod Digits
+pub mod NumberLemmas

@@ -16,6 +16,7 @@ use Rattle.std.specs.Fmt.{digits}
 use Rattle.cert_text.specs.Text.{certificate_text}
 use Rattle.cert_text.specs.Reading.{Answer, read_of}
 use Rattle.cert_text.specs.Faults.{line_fault}
+use Rattle.cert_text.specs.Numbers.{number_of, lowest_number}
 use Rattle.cert_text.specs.Told.{item_of}
 use Rattle.cert_text.specs.Reading.{claim_in}
 
@@ -66,16 +67,16 @@ abbrev again : Program → ℕ → List ℕ → Result (List ℕ) (ℕ × CertKi
 again p line text = written_again p (read_of p line text)
 
 read_first : again first 19 first_text ≡ Ok first_text
-unfolding whole ratio gcd_of digits certificate_text line_fault item_of claim_in
+unfolding whole ratio gcd_of digits certificate_text line_fault item_of claim_in number_of lowest_number
 read_first = refl
 
 -- a second POINT line for a column, and no END
 twice : again first 19 (codes "OPTIMAL\nVALUE 8\nPOINT x 2\nPOINT x 2\nPOINT y 3\nSQUARE 2\n") ≡ Err (22, kinds.CertOrder)
-unfolding whole ratio gcd_of digits certificate_text line_fault item_of claim_in
+unfolding whole ratio gcd_of digits certificate_text line_fault item_of claim_in number_of lowest_number
 twice = refl
 
 unended : again first 19 (codes "OPTIMAL\nVALUE 8\nPOINT x 2\nPOINT y 3\nSQUARE 2\nCOEF x 1\nSQUARE 8\nCOEF y 1\nBOUND\nW x 2\nW y 3\nY c2 -4\n") ≡ Err (31, kinds.CertEnd)
-unfolding whole ratio gcd_of digits certificate_text line_fault item_of claim_in
+unfolding whole ratio gcd_of digits certificate_text line_fault item_of claim_in number_of lowest_number
 unended = refl
 
 -- ---- a refutation
@@ -91,7 +92,7 @@ refutations : (again second 10 (farkas (codes "Y r1 -1\nY r2 1\nEND\n")) ≡ Ok 
     × (again second 10 (farkas (codes "Y r1 -1\nEND\n")) ≡ Ok (farkas (codes "Y r1 -1\nEND\n")))
     × (again second 10 (farkas (codes "Y r1 1\nEND\n")) ≡ Ok (farkas (codes "Y r1 1\nEND\n")))
     × (again second 10 (farkas (codes "Y r2 2/4\nEND\n")) ≡ Err (12, kinds.CertNumber))
-unfolding whole ratio gcd_of digits certificate_text line_fault item_of claim_in
+unfolding whole ratio gcd_of digits certificate_text line_fault item_of claim_in number_of lowest_number
 refutations = (refl, refl, refl, refl)
 
 -- ---- a vector, and the kinds of faults
@@ -100,7 +101,7 @@ abbrev third : Program
 third = named_program [] ((codes "x", record { low = None; high = None; whole = false }) ∷ (codes "y", record { low = None; high = None; whole = false }) ∷ [])
 
 vector : again third 9 (codes "NOTCONVEX\nVECTOR x 1\nVECTOR y -1\nEND\n") ≡ Ok (codes "NOTCONVEX\nVECTOR x 1\nVECTOR y -1\nEND\n")
-unfolding whole ratio gcd_of digits certificate_text line_fault item_of claim_in
+unfolding whole ratio gcd_of digits certificate_text line_fault item_of claim_in number_of lowest_number
 vector = refl
 
 kinds_of_faults : (again third 1 [] ≡ Err (1, kinds.CertEnd))
@@ -115,5 +116,5 @@ kinds_of_faults : (again third 1 [] ≡ Err (1, kinds.CertEnd))
     × (again third 1 (codes "NOTCONVEX\nVECTOR y 1/2\nVECTOR x 1\n") ≡ Err (3, kinds.CertOrder))
     × (again third 1 (codes "INFEASIBLE\nBRANCH x 1/2\n") ≡ Err (2, kinds.CertNumber))
     × (again third 1 (codes "INFEASIBLE\nBRANCH x -1\nCROSS x\nEND\n") ≡ Err (4, kinds.CertLine))
-unfolding whole ratio gcd_of digits certificate_text line_fault item_of claim_in
+unfolding whole ratio gcd_of digits certificate_text line_fault item_of claim_in number_of lowest_number
 kinds_of_faults = (refl, refl, refl, refl, refl, refl, refl, refl, refl, refl, refl, refl)

@@ -1,10 +1,9 @@
 -- What is wrong with a line: the first of its tests, in the order of the kinds, that holds.
-use Rattle.std.specs.Prelude.{ℕ, ◌==◌, ◌&&◌, not, nat_lt, Bool, true, false, List, [], ◌∷◌, length, Option, Some, None, is_none, unwrap_or, slice_index_or, if◌then◌else◌}
-use Rattle.rational.specs.Rational.{ℚ, zero_ℚ}
+use Rattle.std.specs.Prelude.{ℕ, ◌==◌, ◌&&◌, not, nat_lt, Bool, true, false, List, [], ◌∷◌, length, Option, Some, None, Result, Ok, Err, is_none, slice_index_or, if◌then◌else◌}
+use Rattle.rational.specs.Rational.{ℚ}
 use Rattle.program_law.specs.Program.{Program}
 use Rattle.program_law.specs.Places.{place_of}
 use Rattle.program_law.specs.Tests.{is_zero, is_positive}
-use Rattle.program_model.specs.Named.{names_of}
 use Rattle.mps_tokens.specs.declared.words.CertificateWord.{CertificateWord}
 use Rattle.mps_tokens.specs.declared.words.CertificateWord.TheVariants as words
 use Rattle.mps_tokens.specs.Words.{certificate_word_names}
@@ -12,7 +11,13 @@ use Rattle.mps_tokens.specs.Cases.{named}
 use Rattle.cert_text.specs.declared.kinds.CertKind.{CertKind}
 use Rattle.cert_text.specs.declared.kinds.CertKind.TheVariants as kinds
 use Rattle.cert_text.specs.declared.places.Place.{Place}
-use Rattle.cert_text.specs.Numbers.{is_past, number_of}
+use Rattle.mps_tokens.specs.declared.fault.NumberFault.{NumberFault}
+use Rattle.mps_tokens.specs.declared.fault.NumberFault.TheVariants.{NotNumber, Past}
+use Rattle.cert_text.specs.declared.names.Axis.TheVariants.{Columns, Rows}
+use Rattle.cert_text.specs.declared.fields.Allowed.{Allowed}
+use Rattle.cert_text.specs.declared.fields.Allowed.TheVariants.{Any, NotZero, Positive, Whole}
+use Rattle.cert_text.specs.Text.{names_on}
+use Rattle.cert_text.specs.Numbers.{number_of}
 use Rattle.cert_text.specs.Places.{may_stand, least, is_one_too_many}
 
 abbrev pub Tests : Type 0
@@ -28,19 +33,22 @@ field fields k = slice_index_or fields k []
 
 -- ---- the numbers that a line may have
 
-abbrev pub any : ℚ → Bool
-any v = true
+abbrev pub allows : Allowed → ℚ → Bool
+allows Any v = true
+allows NotZero v = not (is_zero v)
+allows Positive v = is_positive v
+allows Whole v = v.den == 1
 
-abbrev pub is_not_zero : ℚ → Bool
-is_not_zero v = not (is_zero v)
+-- a numeral is above 2^127 - 1
+abbrev pub is_past : Result ℚ NumberFault → Bool
+is_past (Ok v) = false
+is_past (Err NotNumber) = false
+is_past (Err Past) = true
 
-abbrev pub is_whole : ℚ → Bool
-is_whole v = v.den == 1
-
--- there is a number, and it passes a test
-abbrev pub passes : (ℚ → Bool) → Option ℚ → Bool
-passes test None = false
-passes test (Some v) = test v
+-- there is a number, and the line may have it
+abbrev pub is_allowed : Allowed → Result ℚ NumberFault → Bool
+is_allowed allowed (Ok v) = allows allowed v
+is_allowed allowed (Err fault) = false
 
 -- a place comes before the least one
 abbrev pub is_early : ℕ → Option ℕ → Bool
@@ -54,11 +62,11 @@ abbrev pub bare_tests : Place → CertificateWord → List (List ℕ) → Tests
 bare_tests s word fields = (not (may_stand s word && (length fields == 0)), kinds.CertLine) ∷ []
 
 -- `word number`
-abbrev pub number_tests : Place → CertificateWord → (ℚ → Bool) → List (List ℕ) → Tests
-number_tests s word test fields =
+abbrev pub number_tests : Place → CertificateWord → Allowed → List (List ℕ) → Tests
+number_tests s word allowed fields =
     (not (may_stand s word && (length fields == 1)), kinds.CertLine)
-    ∷ (is_past (field fields 0), kinds.CertPast)
-    ∷ (not (passes test (number_of (field fields 0))), kinds.CertNumber)
+    ∷ (is_past (number_of (field fields 0)), kinds.CertPast)
+    ∷ (not (is_allowed allowed (number_of (field fields 0))), kinds.CertNumber)
     ∷ (is_one_too_many s word, kinds.CertMany)
     ∷ []
 
@@ -70,29 +78,29 @@ name_tests s word names fields =
     ∷ []
 
 -- `word name number`
-abbrev pub entry_tests : Place → CertificateWord → List (List ℕ) → (ℚ → Bool) → List (List ℕ) → Tests
-entry_tests s word names test fields =
+abbrev pub entry_tests : Place → CertificateWord → List (List ℕ) → Allowed → List (List ℕ) → Tests
+entry_tests s word names allowed fields =
     (not (may_stand s word && (length fields == 2)), kinds.CertLine)
     ∷ (is_none (place_of names (field fields 0)), kinds.CertName)
-    ∷ (is_past (field fields 1), kinds.CertPast)
-    ∷ (not (passes test (number_of (field fields 1))), kinds.CertNumber)
+    ∷ (is_past (number_of (field fields 1)), kinds.CertPast)
+    ∷ (not (is_allowed allowed (number_of (field fields 1))), kinds.CertNumber)
     ∷ (is_early (least s word) (place_of names (field fields 0)), kinds.CertOrder)
     ∷ (is_one_too_many s word, kinds.CertMany)
     ∷ []
 
 abbrev pub tests : Program → Place → CertificateWord → List (List ℕ) → Tests
-tests p s words.Value fields = number_tests s words.Value any fields
-tests p s words.Point fields = entry_tests s words.Point (names_of p.columns) is_not_zero fields
-tests p s words.Ray fields = entry_tests s words.Ray (names_of p.columns) is_not_zero fields
-tests p s words.Vector fields = entry_tests s words.Vector (names_of p.columns) is_not_zero fields
-tests p s words.Square fields = number_tests s words.Square is_positive fields
-tests p s words.Coef fields = entry_tests s words.Coef (names_of p.columns) is_not_zero fields
-tests p s words.Branch fields = entry_tests s words.Branch (names_of p.columns) is_whole fields
+tests p s words.Value fields = number_tests s words.Value Any fields
+tests p s words.Point fields = entry_tests s words.Point (names_on p Columns) NotZero fields
+tests p s words.Ray fields = entry_tests s words.Ray (names_on p Columns) NotZero fields
+tests p s words.Vector fields = entry_tests s words.Vector (names_on p Columns) NotZero fields
+tests p s words.Square fields = number_tests s words.Square Positive fields
+tests p s words.Coef fields = entry_tests s words.Coef (names_on p Columns) NotZero fields
+tests p s words.Branch fields = entry_tests s words.Branch (names_on p Columns) Whole fields
 tests p s words.Bound fields = bare_tests s words.Bound fields
 tests p s words.Farkas fields = bare_tests s words.Farkas fields
-tests p s words.Cross fields = name_tests s words.Cross (names_of p.columns) fields
-tests p s words.W fields = entry_tests s words.W (names_of p.columns) is_not_zero fields
-tests p s words.Y fields = entry_tests s words.Y (names_of p.rows) is_not_zero fields
+tests p s words.Cross fields = name_tests s words.Cross (names_on p Columns) fields
+tests p s words.W fields = entry_tests s words.W (names_on p Columns) NotZero fields
+tests p s words.Y fields = entry_tests s words.Y (names_on p Rows) NotZero fields
 tests p s words.End fields = bare_tests s words.End fields
 tests p s word fields = (true, kinds.CertLine) ∷ []
 

@@ -3,6 +3,8 @@ pub mod Text
 pub mod Appending
 pub mod Parts
 pub mod Places
+pub mod Numerals
+pub mod Entered
 pub mod Faults
 pub mod Told
 pub mod Reading

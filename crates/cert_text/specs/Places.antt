@@ -1,5 +1,5 @@
 -- Where a line stands, and which words may stand there.
-use Rattle.std.specs.Prelude.{ℕ, zero, suc, ◌+◌, ◌-◌, ◌==◌, ◌&&◌, ◌||◌, not, nat_lt, nat_le, Bool, true, false, List, [], ◌∷◌, if◌then◌else◌}
+use Rattle.std.specs.Prelude.{ℕ, zero, suc, ◌+◌, ◌-◌, ◌^◌, ◌≤◌, ◌==◌, ◌&&◌, ◌||◌, not, nat_lt, nat_le, Bool, true, false, List, [], ◌∷◌, if◌then◌else◌}
 use Rattle.mps_tokens.specs.declared.words.CertificateWord.{CertificateWord}
 use Rattle.mps_tokens.specs.declared.words.CertificateWord.TheVariants as words
 use Rattle.cert_text.specs.declared.items.Item.{Item}
@@ -132,3 +132,12 @@ abbrev pub is_one_too_many : Place → CertificateWord → Bool
 is_one_too_many s words.Square = nat_le 128 s.squares
 is_one_too_many s words.Branch = nat_le 20256 s.branches
 is_one_too_many s word = false
+
+-- the counts are far below what a number of the machine holds
+pub record IsCounted (lines : ℕ) (s : Place) : Type 0 where
+  pub wanted : s.wanted ≤ lines + 1
+  pub squares : s.squares ≤ lines
+  pub branches : s.branches ≤ lines
+
+abbrev pub HasRoom : Place → Type 0
+HasRoom s = IsCounted (2 ^ 62) s

@@ -1,11 +1,13 @@
 -- What the lines of a certificate tell.
-use Rattle.std.specs.Prelude.{ℕ, ◌++◌, List, [], ◌∷◌, length, Option, Some, None, unwrap_or, slice_set}
+use Rattle.std.specs.Prelude.{ℕ, ◌++◌, List, [], ◌∷◌, length, Option, Some, None, Result, Ok, Err, unwrap_or, slice_set}
 use Rattle.rational.specs.Rational.{ℚ, zero_ℚ}
 use Rattle.program_law.specs.Program.{Program}
 use Rattle.program_law.specs.Places.{place_of}
 use Rattle.program_law.specs.Changes.{zeros}
 use Rattle.program_law.specs.declared.Square.{Square}
-use Rattle.program_model.specs.Named.{names_of}
+use Rattle.mps_tokens.specs.declared.fault.NumberFault.{NumberFault}
+use Rattle.cert_text.specs.declared.names.Axis.TheVariants.{Columns, Rows}
+use Rattle.cert_text.specs.Text.{names_on}
 use Rattle.certificate_law.specs.declared.Node.{Node}
 use Rattle.certificate_law.specs.declared.Node.TheVariants as nodes
 use Rattle.certificate_law.specs.declared.Certificate.{Certificate}
@@ -25,22 +27,26 @@ use Rattle.cert_text.specs.Faults.{field, word_of, behind}
 abbrev pub place : List (List ℕ) → List ℕ → ℕ
 place names name = unwrap_or (place_of names name) 0
 
+abbrev pub value_or : Result ℚ NumberFault → ℚ → ℚ
+value_or (Ok v) default = v
+value_or (Err fault) default = default
+
 abbrev pub number : List ℕ → ℚ
-number bytes = unwrap_or (number_of bytes) zero_ℚ
+number bytes = value_or (number_of bytes) zero_ℚ
 
 abbrev pub item_with : Program → Option CertificateWord → List (List ℕ) → Item
 item_with p (Some words.Value) fields = items.Value (number (field fields 0))
-item_with p (Some words.Point) fields = items.Point (place (names_of p.columns) (field fields 0)) (number (field fields 1))
-item_with p (Some words.Ray) fields = items.Ray (place (names_of p.columns) (field fields 0)) (number (field fields 1))
-item_with p (Some words.Vector) fields = items.Direction (place (names_of p.columns) (field fields 0)) (number (field fields 1))
+item_with p (Some words.Point) fields = items.Point (place (names_on p Columns) (field fields 0)) (number (field fields 1))
+item_with p (Some words.Ray) fields = items.Ray (place (names_on p Columns) (field fields 0)) (number (field fields 1))
+item_with p (Some words.Vector) fields = items.Direction (place (names_on p Columns) (field fields 0)) (number (field fields 1))
 item_with p (Some words.Square) fields = items.Square (number (field fields 0))
-item_with p (Some words.Coef) fields = items.Coef (place (names_of p.columns) (field fields 0)) (number (field fields 1))
-item_with p (Some words.Branch) fields = items.Branch (place (names_of p.columns) (field fields 0)) (number (field fields 1)).num
+item_with p (Some words.Coef) fields = items.Coef (place (names_on p Columns) (field fields 0)) (number (field fields 1))
+item_with p (Some words.Branch) fields = items.Branch (place (names_on p Columns) (field fields 0)) (number (field fields 1)).num
 item_with p (Some words.Bound) fields = items.Bound
 item_with p (Some words.Farkas) fields = items.Farkas
-item_with p (Some words.Cross) fields = items.Cross (place (names_of p.columns) (field fields 0))
-item_with p (Some words.W) fields = items.W (place (names_of p.columns) (field fields 0)) (number (field fields 1))
-item_with p (Some words.Y) fields = items.Y (place (names_of p.rows) (field fields 0)) (number (field fields 1))
+item_with p (Some words.Cross) fields = items.Cross (place (names_on p Columns) (field fields 0))
+item_with p (Some words.W) fields = items.W (place (names_on p Columns) (field fields 0)) (number (field fields 1))
+item_with p (Some words.Y) fields = items.Y (place (names_on p Rows) (field fields 0)) (number (field fields 1))
 item_with p word fields = items.End
 
 unfoldable pub item_of : Program → List (List ℕ) → Item

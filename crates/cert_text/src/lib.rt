@@ -2,12 +2,15 @@
 #![tactic(auto)]
 
 mod draft;
+mod fields;
 mod items;
 mod kinds;
 mod lines;
 mod names;
 mod openings;
+mod numbers;
 mod places;
+mod splitting;
 mod writing;
 
 pub use writing::write_certificate;
