@@ -5,3 +5,4 @@ pub mod CertificateTexts
 pub mod Pieces
 pub mod Digits
 pub mod NumberLemmas
+pub mod LineLemmas

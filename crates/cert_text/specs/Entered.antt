@@ -9,8 +9,8 @@ use Rattle.cert_text.specs.declared.places.Place.{Place}
 use Rattle.cert_text.specs.declared.fields.Allowed.{Allowed}
 use Rattle.cert_text.specs.declared.items.Item.{Item}
 use Rattle.cert_text.specs.Numbers.{number_of}
-use Rattle.cert_text.specs.Faults.{Tests, first_of, field, bare_tests, number_tests, name_tests, entry_tests, line_fault}
-use Rattle.cert_text.specs.Told.{item_of}
+use Rattle.cert_text.specs.Faults.{Tests, first_of, field, bare_tests, number_tests, name_tests, entry_tests, tests, line_fault}
+use Rattle.cert_text.specs.Told.{item_of, item_with}
 
 abbrev pub ReadsBare : Place → CertificateWord → List (List ℕ) → Result (Unit {0}) CertKind → Type 0
 ReadsBare s word fields (Ok u) = first_of (bare_tests s word fields) ≡ None
@@ -28,6 +28,11 @@ abbrev pub ReadsEntry : Place → CertificateWord → List (List ℕ) → Allowe
 ReadsEntry s word names allowed fields (Ok e) =
     (first_of (entry_tests s word names allowed fields) ≡ None) × (place_of names (field fields 0) ≡ Some e.0) × (number_of (field fields 1) ≡ Ok e.1)
 ReadsEntry s word names allowed fields (Err kind) = first_of (entry_tests s word names allowed fields) ≡ Some kind
+
+-- the item of a line with a word, or its fault
+abbrev pub ReadsWord : Program → Place → CertificateWord → List (List ℕ) → Result Item CertKind → Type 0
+ReadsWord p s word fields (Ok item) = (first_of (tests p s word fields) ≡ None) × (item_with p (Some word) fields ≡ item)
+ReadsWord p s word fields (Err kind) = first_of (tests p s word fields) ≡ Some kind
 
 -- the item of a line, or its fault
 abbrev pub ReadsLine : Program → Place → List (List ℕ) → Result Item CertKind → Type 0

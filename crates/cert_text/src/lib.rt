@@ -5,6 +5,7 @@ mod draft;
 mod fields;
 mod items;
 mod kinds;
+mod line;
 mod lines;
 mod names;
 mod openings;
