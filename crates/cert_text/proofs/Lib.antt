@@ -6,3 +6,4 @@ pub mod Pieces
 pub mod Digits
 pub mod NumberLemmas
 pub mod LineLemmas
+pub mod LastOf

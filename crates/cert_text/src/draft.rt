@@ -1,6 +1,6 @@
 // What the lines so far tell.
 
-use crate::openings::{Nodes, SquareList};
+use crate::openings::{NodeList, SquareList};
 use frac_core::{Frac, Vector};
 
 /// What the lines so far tell.
@@ -11,5 +11,5 @@ pub(crate) struct Draft {
     pub direction: Vector<Frac>,
     pub value: Frac,
     pub squares: SquareList,
-    pub nodes: Nodes,
+    pub nodes: NodeList,
 }
