@@ -8,6 +8,7 @@ use Rattle.program_law.specs.declared.Square.{Square}
 use Rattle.mps_tokens.specs.declared.fault.NumberFault.{NumberFault}
 use Rattle.cert_text.specs.declared.names.Axis.TheVariants.{Columns, Rows}
 use Rattle.cert_text.specs.Text.{names_on}
+use Rattle.certificate_law.specs.Nodes.{IsOneTree}
 use Rattle.certificate_law.specs.declared.Node.{Node}
 use Rattle.certificate_law.specs.declared.Node.TheVariants as nodes
 use Rattle.certificate_law.specs.declared.Certificate.{Certificate}
@@ -102,3 +103,10 @@ certificate_told Optimal d = certificates.Optimal d.point d.value d.squares d.no
 certificate_told Infeasible d = certificates.Infeasible d.nodes
 certificate_told Unbounded d = certificates.Unbounded d.point d.ray d.squares
 certificate_told NotConvex d = certificates.NotConvex d.direction
+
+-- the nodes of a claim with a tree are one whole tree
+abbrev pub IsTreeDue : Claim → List Node → Type 0
+IsTreeDue Optimal ns = IsOneTree ns
+IsTreeDue Infeasible ns = IsOneTree ns
+IsTreeDue Unbounded ns = Unit {0}
+IsTreeDue NotConvex ns = Unit {0}
