@@ -7,3 +7,4 @@ pub mod Digits
 pub mod NumberLemmas
 pub mod LineLemmas
 pub mod LastOf
+pub mod Histories

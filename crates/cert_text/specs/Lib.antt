@@ -8,4 +8,5 @@ pub mod Entered
 pub mod Faults
 pub mod Told
 pub mod Reading
+pub mod History
 pub mod Writable
