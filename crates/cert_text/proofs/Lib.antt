@@ -8,3 +8,4 @@ pub mod NumberLemmas
 pub mod LineLemmas
 pub mod LastOf
 pub mod Histories
+pub mod Readings

@@ -1,7 +1,7 @@
 -- The pieces of bytes between the places of one byte.
 use Rattle.std.proofs.Common.{◌≡◌, ℕ, ◌+◌, ◌-◌, ◌<◌, ◌≤◌, Bool, true, false, cond, List, [], ◌∷◌, length, take, drop, Option, Some, None, refl, ◌∙◌, ap, inl, inr, arith}
 use Rattle.std.specs.Prelude.{◌==◌}
-use Rattle.std.specs.List.{slice_split, position, position_or_len, list_any, before_first, All}
+use Rattle.std.specs.List.{slice_split, onto_first, position, position_or_len, list_any, before_first, All}
 use Rattle.std.proofs.lemmas.Bool.{cases_lt, lt-ltb, le-ltb, ne_eqb}
 use Rattle.std.proofs.lemmas.List.{take_rest, take_all}
 use Rattle.std.proofs.lemmas.List.Splits.{slice_split_first, slice_split_none, length-slice_split}
@@ -47,6 +47,25 @@ is_absent byte bytes e =
 
 pub is_alone : (byte : ℕ) (bytes : List ℕ) → position (is_byte byte) bytes ≡ None → before_first (is_byte byte) bytes ≡ bytes
 is_alone byte bytes e = take_all (position_or_len (is_byte byte) bytes) bytes (not_found (is_byte byte) bytes e)
+
+-- ---- a split has a first part
+
+pub record HasFirst (parts : List (List ℕ)) : Type 0 where
+  pub first : List ℕ
+  pub others : List (List ℕ)
+  pub parts_are : parts ≡ first ∷ others
+
+onto_first_has : (b : ℕ) (parts : List (List ℕ)) → HasFirst (onto_first b parts)
+onto_first_has b [] = record { first = b ∷ []; others = []; parts_are = refl }
+onto_first_has b (p ∷ ps) = record { first = b ∷ p; others = ps; parts_are = refl }
+
+cond_has : (t : Bool) (xs ys : List (List ℕ)) → HasFirst xs → HasFirst ys → HasFirst (cond t xs ys)
+cond_has true xs ys p q = p
+cond_has false xs ys p q = q
+
+pub split_has_first : (byte : ℕ) (bytes : List ℕ) → HasFirst (slice_split (is_byte byte) bytes)
+split_has_first byte [] = record { first = []; others = []; parts_are = refl }
+split_has_first byte (x ∷ xs) = cond_has (is_byte byte x) ([] ∷ slice_split (is_byte byte) xs) (onto_first x (slice_split (is_byte byte) xs)) (record { first = []; others = slice_split (is_byte byte) xs; parts_are = refl }) (onto_first_has x (slice_split (is_byte byte) xs))
 
 -- ---- how many parts a line has
 

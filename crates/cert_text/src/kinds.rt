@@ -1,5 +1,8 @@
 // What is wrong with a text of a certificate.
 
+ghost use Rattle.std.specs.Prelude.{◌≡◌};
+ghost use Rattle.cert_text.specs.declared.kinds.CertStop.TheVariants as stops;
+
 use frac_core::Memory;
 use thiserror::Error;
 
@@ -43,6 +46,8 @@ pub enum CertStop {
 }
 
 impl From<Memory> for CertStop {
+    ghost from_gives = { λ _ e. e ≡ stops.Memory };
+
     fn from(_error: Memory) -> CertStop {
         CertStop::Memory
     }

@@ -11,8 +11,10 @@ mod names;
 mod openings;
 mod numbers;
 mod places;
+mod reading;
 mod splitting;
 mod writing;
 
+pub use reading::read_certificate;
 pub use writing::write_certificate;
 pub use kinds::{CertKind, CertStop};
