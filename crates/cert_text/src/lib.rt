@@ -1,0 +1,20 @@
+//! The text of a certificate: written, and read with the first line that leaves the grammar.
+#![tactic(auto)]
+
+mod draft;
+mod fields;
+mod items;
+mod kinds;
+mod line;
+mod lines;
+mod names;
+mod openings;
+mod numbers;
+mod places;
+mod reading;
+mod splitting;
+mod writing;
+
+pub use reading::read_certificate;
+pub use writing::write_certificate;
+pub use kinds::{CertKind, CertStop};
