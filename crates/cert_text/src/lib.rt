@@ -18,3 +18,6 @@ mod writing;
 pub use reading::read_certificate;
 pub use writing::write_certificate;
 pub use kinds::{CertKind, CertStop};
+
+#[cfg(test)]
+mod tests;
