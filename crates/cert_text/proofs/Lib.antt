@@ -9,3 +9,8 @@ pub mod LineLemmas
 pub mod LastOf
 pub mod Histories
 pub mod Readings
+pub mod Unpacked
+pub mod Taken
+pub mod Lists
+pub mod ToldFits
+pub mod ReadFits

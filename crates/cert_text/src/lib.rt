@@ -3,6 +3,7 @@
 
 mod draft;
 mod fields;
+mod fitting;
 mod items;
 mod kinds;
 mod line;
@@ -15,6 +16,7 @@ mod reading;
 mod splitting;
 mod writing;
 
+pub use fitting::certificates_that_are_read_fit;
 pub use reading::read_certificate;
 pub use writing::write_certificate;
 pub use kinds::{CertKind, CertStop};
