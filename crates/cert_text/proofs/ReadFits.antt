@@ -7,7 +7,6 @@ use Rattle.program_law.specs.Program.{Program}
 use Rattle.certificate_law.specs.declared.Certificate.{Certificate}
 use Rattle.cert_text.specs.declared.items.Item.{Item}
 use Rattle.cert_text.specs.declared.items.Claim.{Claim}
-use Rattle.cert_text.specs.declared.items.Claim.TheVariants.{Optimal, Infeasible, Unbounded, NotConvex}
 use Rattle.cert_text.specs.declared.kinds.CertKind.{CertKind}
 use Rattle.cert_text.specs.Parts.{pieces_of, parts_of}
 use Rattle.cert_text.specs.Places.{start, place_after, is_ended}
@@ -29,12 +28,6 @@ record FitSoFar (p : Program) (claim : Claim) (earlier : List Item) : Type 0 whe
   nodes : AreNodes p (place_after claim earlier).branches (told_by p earlier).nodes
   suiting : SuitsClaim claim (told_by p earlier).nodes
 
-none_suit : (claim : Claim) → SuitsClaim claim []
-none_suit Optimal = tt
-none_suit Infeasible = tt
-none_suit Unbounded = tt
-none_suit NotConvex = tt
-
 begun_fit : (p : Program) (claim : Claim) → FitSoFar p claim []
 begun_fit p claim =
     let long = length-replicate (length p.columns) zero_ℚ in
@@ -44,7 +37,7 @@ begun_fit p claim =
       vectors = record { point_fits = long; ray_fits = long; direction_fits = long };
       squares = record { fitting = record { positive = tt; widths = tt }; counted = refl; few = omega arith };
       nodes = record { fitting = tt; counted = refl; few = omega arith };
-      suiting = none_suit claim;
+      suiting = λ other. tt;
     }
 
 fit_more : (p : Program) (claim : Claim) (earlier : List Item) (parts : List (List ℕ)) → line_fault p (place_after claim earlier) parts ≡ None → FitSoFar p claim earlier → FitSoFar p claim (item_of p parts ∷ earlier)

@@ -50,10 +50,7 @@ pub record AreNodes (p : Program) (branches : ℕ) (tree : List Node) : Type 0 w
 
 -- a BOUND leaf only where a value is claimed
 abbrev pub SuitsClaim : Claim → List Node → Type 0
-SuitsClaim Optimal tree = Unit {0}
-SuitsClaim Infeasible tree = HasNoBound tree
-SuitsClaim Unbounded tree = HasNoBound tree
-SuitsClaim NotConvex tree = HasNoBound tree
+SuitsClaim claim tree = is_optimal claim ≡ false → HasNoBound tree
 
 -- ---- the vectors
 
@@ -221,10 +218,7 @@ no_bound_item p s d (items.Y i v) t e h = no_bound_on_last (with_y i v) (no_boun
 no_bound_item p s d item t e h = h
 
 pub claim_more : (p : Program) (claim : Claim) (s : Place) (d : Draft) (item : Item) → s.claim ≡ claim → IsTaken p s item → SuitsClaim claim d.nodes → SuitsClaim claim (with_item (length p.columns) (length p.rows) item d).nodes
-claim_more p Optimal s d item e t h = tt
-claim_more p Infeasible s d item e t h = no_bound_item p s d item t (ap is_optimal e) h
-claim_more p Unbounded s d item e t h = no_bound_item p s d item t (ap is_optimal e) h
-claim_more p NotConvex s d item e t h = no_bound_item p s d item t (ap is_optimal e) h
+claim_more p claim s d item e t h = λ other. no_bound_item p s d item t (ap is_optimal e ∙ other) (h other)
 
 pub same_claim : (s : Place) (item : Item) → (after s item).claim ≡ s.claim
 same_claim s (items.Value v) = refl
@@ -263,6 +257,6 @@ writable p Optimal squares branches d v s n c t = record {
   few_squares = omega (arith, s.counted, s.few);
   few_branches = omega (arith, n.counted, n.few);
 }
-writable p Infeasible squares branches d v s n c t = record { fitting = (whole_tree p branches d.nodes t n, c); few_squares = omega arith; few_branches = omega (arith, n.counted, n.few) }
+writable p Infeasible squares branches d v s n c t = record { fitting = (whole_tree p branches d.nodes t n, c refl); few_squares = omega arith; few_branches = omega (arith, n.counted, n.few) }
 writable p Unbounded squares branches d v s n c t = record { fitting = (v.point_fits, v.ray_fits, s.fitting); few_squares = omega (arith, s.counted, s.few); few_branches = omega arith }
 writable p NotConvex squares branches d v s n c t = record { fitting = v.direction_fits; few_squares = omega arith; few_branches = omega arith }
