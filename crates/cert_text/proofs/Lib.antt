@@ -1,0 +1,16 @@
+pub mod Worked
+pub mod NameLemmas
+pub mod Appended
+pub mod CertificateTexts
+pub mod Pieces
+pub mod Digits
+pub mod NumberLemmas
+pub mod LineLemmas
+pub mod LastOf
+pub mod Histories
+pub mod Readings
+pub mod Unpacked
+pub mod Taken
+pub mod Lists
+pub mod ToldFits
+pub mod ReadFits

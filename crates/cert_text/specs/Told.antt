@@ -1,0 +1,112 @@
+-- What the lines of a certificate tell.
+use Rattle.std.specs.Prelude.{ℕ, ◌++◌, List, [], ◌∷◌, length, Option, Some, None, Result, Ok, Err, unwrap_or, slice_set}
+use Rattle.rational.specs.Rational.{ℚ, zero_ℚ}
+use Rattle.program_law.specs.Program.{Program}
+use Rattle.program_law.specs.Places.{place_of}
+use Rattle.program_law.specs.Changes.{zeros}
+use Rattle.program_law.specs.declared.Square.{Square}
+use Rattle.mps_tokens.specs.declared.fault.NumberFault.{NumberFault}
+use Rattle.cert_text.specs.declared.names.Axis.TheVariants.{Columns, Rows}
+use Rattle.cert_text.specs.Text.{names_on}
+use Rattle.certificate_law.specs.Nodes.{IsOneTree}
+use Rattle.certificate_law.specs.declared.Node.{Node}
+use Rattle.certificate_law.specs.declared.Node.TheVariants as nodes
+use Rattle.certificate_law.specs.declared.Certificate.{Certificate}
+use Rattle.certificate_law.specs.declared.Certificate.TheVariants as certificates
+use Rattle.mps_tokens.specs.declared.words.CertificateWord.{CertificateWord}
+use Rattle.mps_tokens.specs.declared.words.CertificateWord.TheVariants as words
+use Rattle.cert_text.specs.declared.items.Item.{Item}
+use Rattle.cert_text.specs.declared.items.Item.TheVariants as items
+use Rattle.cert_text.specs.declared.items.Claim.{Claim}
+use Rattle.cert_text.specs.declared.items.Claim.TheVariants.{Optimal, Infeasible, Unbounded, NotConvex}
+use Rattle.cert_text.specs.declared.draft.Draft.{Draft}
+use Rattle.cert_text.specs.Numbers.{number_of}
+use Rattle.cert_text.specs.Faults.{field, word_of, behind}
+
+-- ---- the item of a line that has no fault
+
+abbrev pub place : List (List ℕ) → List ℕ → ℕ
+place names name = unwrap_or (place_of names name) 0
+
+abbrev pub value_or : Result ℚ NumberFault → ℚ → ℚ
+value_or (Ok v) default = v
+value_or (Err fault) default = default
+
+abbrev pub number : List ℕ → ℚ
+number bytes = value_or (number_of bytes) zero_ℚ
+
+abbrev pub item_with : Program → Option CertificateWord → List (List ℕ) → Item
+item_with p (Some words.Value) fields = items.Value (number (field fields 0))
+item_with p (Some words.Point) fields = items.Point (place (names_on p Columns) (field fields 0)) (number (field fields 1))
+item_with p (Some words.Ray) fields = items.Ray (place (names_on p Columns) (field fields 0)) (number (field fields 1))
+item_with p (Some words.Vector) fields = items.Direction (place (names_on p Columns) (field fields 0)) (number (field fields 1))
+item_with p (Some words.Square) fields = items.Square (number (field fields 0))
+item_with p (Some words.Coef) fields = items.Coef (place (names_on p Columns) (field fields 0)) (number (field fields 1))
+item_with p (Some words.Branch) fields = items.Branch (place (names_on p Columns) (field fields 0)) (number (field fields 1)).num
+item_with p (Some words.Bound) fields = items.Bound
+item_with p (Some words.Farkas) fields = items.Farkas
+item_with p (Some words.Cross) fields = items.Cross (place (names_on p Columns) (field fields 0))
+item_with p (Some words.W) fields = items.W (place (names_on p Columns) (field fields 0)) (number (field fields 1))
+item_with p (Some words.Y) fields = items.Y (place (names_on p Rows) (field fields 0)) (number (field fields 1))
+item_with p word fields = items.End
+
+unfoldable pub item_of : Program → List (List ℕ) → Item
+item_of p parts = item_with p (word_of parts) (behind parts)
+
+-- ---- what the items tell
+
+-- the last thing changed
+abbrev pub on_last : {A : Type 0} → (A → A) → List A → List A
+on_last f [] = []
+on_last f (x ∷ []) = f x ∷ []
+on_last f (x ∷ y ∷ ys) = x ∷ on_last f (y ∷ ys)
+
+abbrev pub with_coef : ℕ → ℚ → Square → Square
+with_coef j v s = record s { coef = slice_set s.coef j v }
+
+abbrev pub with_w : ℕ → ℚ → Node → Node
+with_w j v (nodes.Bound w y) = nodes.Bound (slice_set w j v) y
+with_w j v node = node
+
+abbrev pub with_y : ℕ → ℚ → Node → Node
+with_y i v (nodes.Bound w y) = nodes.Bound w (slice_set y i v)
+with_y i v (nodes.Farkas y) = nodes.Farkas (slice_set y i v)
+with_y i v node = node
+
+-- nothing is told, for so many columns
+abbrev pub blank : ℕ → Draft
+blank columns = record { point = zeros columns; ray = zeros columns; direction = zeros columns; value = zero_ℚ; squares = []; nodes = [] }
+
+-- one item more is told, for so many columns and rows
+abbrev pub with_item : ℕ → ℕ → Item → Draft → Draft
+with_item columns rows (items.Value v) d = record d { value = v }
+with_item columns rows (items.Point j v) d = record d { point = slice_set d.point j v }
+with_item columns rows (items.Ray j v) d = record d { ray = slice_set d.ray j v }
+with_item columns rows (items.Direction j v) d = record d { direction = slice_set d.direction j v }
+with_item columns rows (items.Square v) d = record d { squares = d.squares ++ (record { weight = v; coef = zeros columns }) ∷ [] }
+with_item columns rows (items.Coef j v) d = record d { squares = on_last (with_coef j v) d.squares }
+with_item columns rows (items.Branch j k) d = record d { nodes = d.nodes ++ nodes.Branch j k ∷ [] }
+with_item columns rows items.Bound d = record d { nodes = d.nodes ++ nodes.Bound (zeros columns) (zeros rows) ∷ [] }
+with_item columns rows items.Farkas d = record d { nodes = d.nodes ++ nodes.Farkas (zeros rows) ∷ [] }
+with_item columns rows (items.Cross j) d = record d { nodes = d.nodes ++ nodes.Cross j ∷ [] }
+with_item columns rows (items.W j v) d = record d { nodes = on_last (with_w j v) d.nodes }
+with_item columns rows (items.Y i v) d = record d { nodes = on_last (with_y i v) d.nodes }
+with_item columns rows items.End d = d
+
+-- what the items tell, the last one first
+abbrev pub told_by : Program → List Item → Draft
+told_by p [] = blank (length p.columns)
+told_by p (item ∷ earlier) = with_item (length p.columns) (length p.rows) item (told_by p earlier)
+
+abbrev pub certificate_told : Claim → Draft → Certificate
+certificate_told Optimal d = certificates.Optimal d.point d.value d.squares d.nodes
+certificate_told Infeasible d = certificates.Infeasible d.nodes
+certificate_told Unbounded d = certificates.Unbounded d.point d.ray d.squares
+certificate_told NotConvex d = certificates.NotConvex d.direction
+
+-- the nodes of a claim with a tree are one whole tree
+abbrev pub IsTreeDue : Claim → List Node → Type 0
+IsTreeDue Optimal ns = IsOneTree ns
+IsTreeDue Infeasible ns = IsOneTree ns
+IsTreeDue Unbounded ns = Unit {0}
+IsTreeDue NotConvex ns = Unit {0}

@@ -1,0 +1,157 @@
+// What the lines so far tell.
+
+ghost use Rattle.std.specs.Prelude.{◌≡◌, IfOk, OnOk};
+ghost use Rattle.certificate_law.specs.Nodes.{IsOneTree};
+ghost use Rattle.program_law.specs.Changes.{zeros};
+ghost use Rattle.cert_text.specs.Told.{blank, with_item, certificate_told, IsTreeDue};
+
+use crate::items::{Claim, Item};
+use crate::openings::{NodeList, SquareList, put_at};
+use certificate_law::{Certificate, Node, Tree, TreeBuilder};
+use frac_core::{Frac, Memory, Vector};
+use program_model::Square;
+use std::alloc::Global;
+
+/// What the lines so far tell.
+#[derive(Drop)]
+pub(crate) struct Draft {
+    pub point: Vector<Frac>,
+    pub ray: Vector<Frac>,
+    pub direction: Vector<Frac>,
+    pub value: Frac,
+    pub squares: SquareList,
+    pub nodes: NodeList,
+}
+
+/// A zero for each column or row.
+fn zeros(alloc: Global, count: u32) -> Result<Vector<Frac>, Memory>
+    ensures { IfOk result (λ v. v ≡ zeros count) }
+{
+    Vector::filled(alloc, count as usize, Frac::whole(0))
+}
+
+/// The tree of nodes that are one.
+fn tree_of(nodes: TreeBuilder) -> Tree
+    requires { IsOneTree nodes }
+    ensures { result ≡ nodes }
+{
+    match nodes.finish() {
+        Ok(tree) => tree,
+        Err(_) => unreachable!(),
+    }
+}
+
+impl Draft {
+    /// Nothing is told.
+    pub(crate) fn start(alloc: Global, columns: u32) -> Result<Draft, Memory>
+        ensures { IfOk result (λ draft. draft ≡ blank columns) }
+    {
+        let point = zeros(alloc, columns)?;
+        let ray = zeros(alloc, columns)?;
+        let direction = zeros(alloc, columns)?;
+        Ok(Draft {
+            point,
+            ray,
+            direction,
+            value: Frac::whole(0),
+            squares: SquareList::start(alloc),
+            nodes: NodeList::start(alloc),
+        })
+    }
+
+    /// A square is begun.
+    fn begin_square(&mut self, alloc: Global, columns: u32, weight: Frac) -> Result<(), Memory>
+        ensures { OnOk result (self.new ≡ with_item columns 0 (Item.Square weight) self.old) }
+    {
+        let coef = zeros(alloc, columns)?;
+        self.squares.push(Square { weight, coef })
+    }
+
+    /// A BOUND leaf is begun.
+    fn begin_bound(&mut self, alloc: Global, columns: u32, rows: u32) -> Result<(), Memory>
+        ensures { OnOk result (self.new ≡ with_item columns rows Item.Bound self.old) }
+    {
+        let w = zeros(alloc, columns)?;
+        let y = zeros(alloc, rows)?;
+        self.nodes.push(Node::Bound(w, y))
+    }
+
+    /// A FARKAS leaf is begun.
+    fn begin_farkas(&mut self, alloc: Global, rows: u32) -> Result<(), Memory>
+        ensures { OnOk result (self.new ≡ with_item 0 rows Item.Farkas self.old) }
+    {
+        let y = zeros(alloc, rows)?;
+        self.nodes.push(Node::Farkas(y))
+    }
+
+    /// What a line tells is put behind what the lines before it tell.
+    pub(crate) fn put(
+        &mut self,
+        alloc: Global,
+        columns: u32,
+        rows: u32,
+        item: Item,
+    ) -> Result<(), Memory>
+        ensures { OnOk result (self.new ≡ with_item columns rows item self.old) }
+    {
+        match item {
+            Item::Value(value) => {
+                self.value = value;
+                Ok(())
+            }
+            Item::Point(column, value) => {
+                put_at(&mut self.point, column, value);
+                Ok(())
+            }
+            Item::Ray(column, value) => {
+                put_at(&mut self.ray, column, value);
+                Ok(())
+            }
+            Item::Direction(column, value) => {
+                put_at(&mut self.direction, column, value);
+                Ok(())
+            }
+            Item::Square(weight) => self.begin_square(alloc, columns, weight),
+            Item::Coef(column, value) => {
+                self.squares.put(column, value);
+                Ok(())
+            }
+            Item::Branch(column, k) => self.nodes.push(Node::Branch(column, k)),
+            Item::Bound => self.begin_bound(alloc, columns, rows),
+            Item::Farkas => self.begin_farkas(alloc, rows),
+            Item::Cross(column) => self.nodes.push(Node::Cross(column)),
+            Item::W(column, value) => {
+                self.nodes.put_w(column, value);
+                Ok(())
+            }
+            Item::Y(row, value) => {
+                self.nodes.put_y(row, value);
+                Ok(())
+            }
+            Item::End => Ok(()),
+        }
+    }
+
+    /// The certificate that is told.
+    pub(crate) fn finish(self, claim: Claim) -> Result<Certificate, Memory>
+        requires { IsTreeDue claim self.nodes }
+        ensures { IfOk result (λ c. c ≡ certificate_told claim self) }
+    {
+        match claim {
+            Claim::Optimal => {
+                let squares = self.squares.finish()?;
+                let tree = tree_of(self.nodes.finish()?);
+                Ok(Certificate::Optimal(self.point, self.value, squares, tree))
+            }
+            Claim::Infeasible => {
+                let tree = tree_of(self.nodes.finish()?);
+                Ok(Certificate::Infeasible(tree))
+            }
+            Claim::Unbounded => {
+                let squares = self.squares.finish()?;
+                Ok(Certificate::Unbounded(self.point, self.ray, squares))
+            }
+            Claim::NotConvex => Ok(Certificate::NotConvex(self.direction)),
+        }
+    }
+}

@@ -1,0 +1,143 @@
+// The fields of a line behind its word.
+
+ghost use Rattle.std.specs.Prelude.{◌≡◌, Some};
+ghost use Rattle.cert_text.specs.Parts.{parts_of};
+ghost use Rattle.cert_text.specs.Text.{names_on};
+ghost use Rattle.cert_text.specs.Faults.{behind, allows, is_early};
+ghost use Rattle.cert_text.specs.Entered.{ReadsBare, ReadsNumber, ReadsName, ReadsEntry};
+
+use crate::kinds::CertKind;
+use crate::names::{Axis, find_on};
+use crate::numbers::number;
+use crate::places::Place;
+use crate::splitting::{is_one_part, last_two_parts, second_part};
+use check_steps::{is_positive, is_zero};
+use frac_core::Frac;
+use mps_tokens::{CertificateWord, NumberFault};
+use program_model::Program;
+
+/// Which numbers a line may have.
+#[derive(Clone, Copy)]
+pub(crate) enum Allowed {
+    Any,
+    NotZero,
+    Positive,
+    Whole,
+}
+
+impl Allowed {
+    fn allows(self, value: Frac) -> bool
+        ensures { result ≡ allows self value }
+    {
+        match self {
+            Allowed::Any => true,
+            Allowed::NotZero => !is_zero(value),
+            Allowed::Positive => is_positive(value),
+            Allowed::Whole => value.den() == 1,
+        }
+    }
+}
+
+/// A line of a word alone.
+pub(crate) fn read_bare(place: Place, word: CertificateWord, line: &[u8]) -> Result<(), CertKind>
+    ensures { ReadsBare place word (behind (parts_of line.now)) result }
+{
+    if place.may_stand(word) && is_one_part(line) {
+        Ok(())
+    } else {
+        Err(CertKind::CertLine)
+    }
+}
+
+/// The number of a line of a word and a number.
+pub(crate) fn read_number(
+    place: Place,
+    word: CertificateWord,
+    allowed: Allowed,
+    line: &[u8],
+) -> Result<Frac, CertKind>
+    ensures { ReadsNumber place word allowed (behind (parts_of line.now)) result }
+{
+    if !place.may_stand(word) {
+        return Err(CertKind::CertLine);
+    }
+    let Some(bytes) = second_part(line) else {
+        return Err(CertKind::CertLine);
+    };
+    let value = match number(bytes) {
+        Ok(value) => value,
+        Err(NumberFault::Past) => return Err(CertKind::CertPast),
+        Err(NumberFault::NotNumber) => return Err(CertKind::CertNumber),
+    };
+    if !allowed.allows(value) {
+        return Err(CertKind::CertNumber);
+    }
+    if place.is_one_too_many(word) {
+        return Err(CertKind::CertMany);
+    }
+    Ok(value)
+}
+
+/// The column of a line of a word and a column.
+pub(crate) fn read_name(
+    p: &Program,
+    place: Place,
+    word: CertificateWord,
+    line: &[u8],
+) -> Result<u32, CertKind>
+    ensures { ReadsName place word (names_on p.now Axis.Columns) (behind (parts_of line.now)) result }
+{
+    if !place.may_stand(word) {
+        return Err(CertKind::CertLine);
+    }
+    let Some(name) = second_part(line) else {
+        return Err(CertKind::CertLine);
+    };
+    let Some(column) = find_on(p, Axis::Columns, name) else {
+        return Err(CertKind::CertName);
+    };
+    Ok(column)
+}
+
+fn is_early(least: u64, found: u32) -> bool
+    ensures { result ≡ is_early least (Some found) }
+{
+    u64::from(found) < least
+}
+
+/// The column or row and the number of an entry's line.
+pub(crate) fn read_entry(
+    p: &Program,
+    axis: Axis,
+    place: Place,
+    word: CertificateWord,
+    allowed: Allowed,
+    line: &[u8],
+) -> Result<(u32, Frac), CertKind>
+    ensures { ReadsEntry place word (names_on p.now axis) allowed (behind (parts_of line.now)) result }
+{
+    if !place.may_stand(word) {
+        return Err(CertKind::CertLine);
+    }
+    let Some((name, bytes)) = last_two_parts(line) else {
+        return Err(CertKind::CertLine);
+    };
+    let Some(found) = find_on(p, axis, name) else {
+        return Err(CertKind::CertName);
+    };
+    let value = match number(bytes) {
+        Ok(value) => value,
+        Err(NumberFault::Past) => return Err(CertKind::CertPast),
+        Err(NumberFault::NotNumber) => return Err(CertKind::CertNumber),
+    };
+    if !allowed.allows(value) {
+        return Err(CertKind::CertNumber);
+    }
+    if is_early(place.least(word), found) {
+        return Err(CertKind::CertOrder);
+    }
+    if place.is_one_too_many(word) {
+        return Err(CertKind::CertMany);
+    }
+    Ok((found, value))
+}

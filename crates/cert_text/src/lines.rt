@@ -1,0 +1,113 @@
+// Lines that are written.
+
+ghost use Rattle.std.specs.Prelude.{◌≡◌, ◌∷◌, [], codes};
+ghost use Rattle.std.specs.Fmt.{signed_decimal};
+ghost use Rattle.frac_core.specs.Text.{text_of};
+ghost use Rattle.cert_text.specs.Appending.{Appends};
+ghost use Rattle.cert_text.specs.Text.{line_text};
+
+use frac_core::{Frac, Memory};
+use std::fmt::Write;
+
+/// Appends bytes.
+fn push(out: &mut Vec<u8>, bytes: &[u8]) -> Result<(), Memory>
+    ensures { Appends out.old.items out.new.items bytes.now result }
+{
+    out.extend_from_slice(bytes)?;
+    Ok(())
+}
+
+/// Appends a blank and a field.
+fn push_field(out: &mut Vec<u8>, field: &[u8]) -> Result<(), Memory>
+    ensures { Appends out.old.items out.new.items (32 ∷ field.now) result }
+{
+    push(out, b" ")?;
+    push(out, field)
+}
+
+/// Appends a blank and a number, by way of a text that is kept for its room.
+fn push_number(out: &mut Vec<u8>, text: &mut String, number: Frac) -> Result<(), Memory>
+    ensures { Appends out.old.items out.new.items (32 ∷ text_of number) result }
+{
+    text.clear();
+    write!(text, "{number}")?;
+    push_field(out, text.as_bytes())
+}
+
+/// Appends a blank and a whole number.
+fn push_whole(out: &mut Vec<u8>, text: &mut String, number: i128) -> Result<(), Memory>
+    ensures { Appends out.old.items out.new.items (32 ∷ signed_decimal number) result }
+{
+    text.clear();
+    write!(text, "{number}")?;
+    push_field(out, text.as_bytes())
+}
+
+/// Appends the end of a line.
+fn put_end(out: &mut Vec<u8>) -> Result<(), Memory>
+    ensures { Appends out.old.items out.new.items (10 ∷ []) result }
+{
+    push(out, b"\n")
+}
+
+/// Appends the line of a word.
+pub(crate) fn put_word(out: &mut Vec<u8>, word: &[u8]) -> Result<(), Memory>
+    ensures { Appends out.old.items out.new.items (line_text (word.now ∷ [])) result }
+{
+    push(out, word)?;
+    put_end(out)
+}
+
+/// Appends the line of a word and a number.
+pub(crate) fn put_number(
+    out: &mut Vec<u8>,
+    text: &mut String,
+    word: &[u8],
+    number: Frac,
+) -> Result<(), Memory>
+    ensures { Appends out.old.items out.new.items (line_text (word.now ∷ text_of number ∷ [])) result }
+{
+    push(out, word)?;
+    push_number(out, text, number)?;
+    put_end(out)
+}
+
+/// Appends the line of a word and a name.
+pub(crate) fn put_name(out: &mut Vec<u8>, word: &[u8], name: &[u8]) -> Result<(), Memory>
+    ensures { Appends out.old.items out.new.items (line_text (word.now ∷ name.now ∷ [])) result }
+{
+    push(out, word)?;
+    push_field(out, name)?;
+    put_end(out)
+}
+
+/// Appends the line of an entry: a word, a name and a number.
+pub(crate) fn put_entry(
+    out: &mut Vec<u8>,
+    text: &mut String,
+    word: &[u8],
+    name: &[u8],
+    number: Frac,
+) -> Result<(), Memory>
+    ensures { Appends out.old.items out.new.items (line_text (word.now ∷ name.now ∷ text_of number ∷ [])) result }
+{
+    push(out, word)?;
+    push_field(out, name)?;
+    push_number(out, text, number)?;
+    put_end(out)
+}
+
+/// Appends the line of a branch.
+pub(crate) fn put_branch(
+    out: &mut Vec<u8>,
+    text: &mut String,
+    name: &[u8],
+    k: i128,
+) -> Result<(), Memory>
+    ensures { Appends out.old.items out.new.items (line_text (codes "BRANCH" ∷ name.now ∷ signed_decimal k ∷ [])) result }
+{
+    push(out, b"BRANCH")?;
+    push_field(out, name)?;
+    push_whole(out, text, k)?;
+    put_end(out)
+}

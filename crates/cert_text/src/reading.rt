@@ -1,0 +1,95 @@
+// The certificate of a text.
+
+ghost use Rattle.std.specs.Prelude.{◌≡◌, ◌≤◌, ◌^◌, ◌+◌, [], length};
+ghost use Rattle.cert_text.specs.Parts.{pieces_of};
+ghost use Rattle.cert_text.specs.Reading.{claim_in, read_on, read_of, Reads};
+
+use crate::draft::Draft;
+use crate::items::Claim;
+use crate::kinds::{CertKind, CertStop};
+use crate::line::read_line;
+use crate::places::Place;
+use crate::splitting::split_line;
+use certificate_law::Certificate;
+use mps_tokens::{CertificateWord, certificate_word_of};
+use program_model::Program;
+use std::alloc::Global;
+
+/// The claim of the first line.
+#[tactic(auto, unfolding(crate::specs::Reading::claim_in))]
+fn claim_in(line: &[u8]) -> Option<Claim>
+    ensures { result ≡ claim_in line.now }
+{
+    match certificate_word_of(line)? {
+        CertificateWord::Optimal => Some(Claim::Optimal),
+        CertificateWord::Infeasible => Some(Claim::Infeasible),
+        CertificateWord::Unbounded => Some(Claim::Unbounded),
+        CertificateWord::NotConvex => Some(Claim::NotConvex),
+        _ => None,
+    }
+}
+
+/// The certificate with this claim, of the lines behind the first.
+fn read_claimed(
+    alloc: Global,
+    p: &Program,
+    claim: Claim,
+    text: &[u8],
+    line: u32,
+) -> Result<Certificate, CertStop>
+    requires text { length text.now ≤ 2 ^ 30 }
+    requires line { line ≤ 2 ^ 31 + 1 }
+    ensures { Reads (read_on p.now claim line [] (pieces_of text.now)) result }
+{
+    let columns = p.columns();
+    let rows = p.rows();
+    let mut draft = Draft::start(alloc, columns)?;
+    let mut place = Place::start(claim);
+    let mut rest = text;
+    let mut line = line;
+    'lines: while !place.part.is_ended() {
+        let Some((first, others)) = split_line(rest) else {
+            let kind = CertKind::CertEnd;
+            return Err(CertStop::Fault { line, kind });
+        };
+        let item = match read_line(p, place, first) {
+            Ok(item) => item,
+            Err(kind) => return Err(CertStop::Fault { line, kind }),
+        };
+        draft.put(alloc, columns, rows, item)?;
+        place = place.after(&item);
+        rest = others;
+        line += 1;
+    }
+    if !rest.is_empty() {
+        let kind = CertKind::CertAfter;
+        return Err(CertStop::Fault { line, kind });
+    }
+    let certificate = draft.finish(claim)?;
+    Ok(certificate)
+}
+
+/// The certificate of a text for a program. `line` is the number of the text's first line.
+///
+/// # Errors
+/// `Fault` with the first line at which the text leaves the grammar and how, or `Memory`.
+pub fn read_certificate(
+    alloc: Global,
+    p: &Program,
+    text: &[u8],
+    line: u32,
+) -> Result<Certificate, CertStop>
+    requires text { length text.now ≤ 2 ^ 30 }
+    requires line { line ≤ 2 ^ 31 }
+    ensures { Reads (read_of p.now line text.now) result }
+{
+    let Some((first, rest)) = split_line(text) else {
+        let kind = CertKind::CertEnd;
+        return Err(CertStop::Fault { line, kind });
+    };
+    let Some(claim) = claim_in(first) else {
+        let kind = CertKind::CertLine;
+        return Err(CertStop::Fault { line, kind });
+    };
+    read_claimed(alloc, p, claim, rest, line + 1)
+}
