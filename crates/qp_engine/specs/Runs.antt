@@ -1,18 +1,32 @@
 -- What a run did, as against what was due.
-use Rattle.std.specs.Prelude.{◌≡◌, ℕ, List, [], ◌∷◌, Option, Some, IsSomeAnd, Bool, true, false, ⊤, codes, string_bytes, bytes_eq, String}
+use Rattle.std.specs.Prelude.{◌≡◌, ℕ, List, [], ◌∷◌, Option, Some, None, IsSomeAnd, Result, Ok, IsOkAnd, Bool, true, false, ⊤, codes, drop, string_bytes, bytes_eq, String, if◌then◌else◌}
 use Rattle.std.specs.Io.KnownBytes.{Appends, Keeps}
-use Rattle.program_law.specs.Verdict.{IsInfeasible}
-use Rattle.plain_lines.specs.Plain.{plain_of}
+use Rattle.program_law.specs.Program.{Program}
+use Rattle.program_law.specs.Verdict.{IsTrueOf}
+use Rattle.certificate_law.specs.declared.Certificate.{Certificate}
+use Rattle.certificate_law.specs.Good.{IsGood, verdict_of}
+use Rattle.mps_grammar.specs.Reading.{Spot, read_of, rest_of}
+use Rattle.cert_text.specs.Text.{certificate_text}
+use Rattle.cert_text.specs.Reading as reading
 use Rattle.qp_streams.specs.Streams.{TakesFront}
 use Rattle.qp_engine.specs.Said.{Said}
+use Rattle.qp_engine.specs.declared.tasks.Task.{Task}
+use Rattle.qp_engine.specs.declared.tasks.Task.TheVariants.{Check, Write, Solve}
 use Rattle.qp_engine.specs.declared.status.Status.{Status}
 use Rattle.qp_engine.specs.declared.status.Status.TheVariants as status
 
--- the words are the one word `check`
-abbrev pub is_check : {A : Type 0} → List (String A) → Bool
-is_check [] = false
-is_check (word ∷ []) = bytes_eq (string_bytes word) (codes "check")
-is_check (word ∷ other ∷ more) = false
+-- ---- words
+
+abbrev pub task_named : List ℕ → Option Task
+task_named word = if bytes_eq word (codes "check") then Some Check else (if bytes_eq word (codes "write") then Some Write else (if bytes_eq word (codes "solve") then Some Solve else None))
+
+-- the one word names a task
+abbrev pub task_of : {A : Type 0} → List (String A) → Option Task
+task_of [] = None
+task_of (word ∷ []) = task_named (string_bytes word)
+task_of (word ∷ other ∷ more) = None
+
+-- ---- output
 
 -- a status that comes with a text of its own
 abbrev pub HasText : Status → Type 0
@@ -37,6 +51,31 @@ Meets due status.Usage old new = (due.status ≡ status.Usage) × Appends old ne
 Meets due status.Withheld old new = (due.status ≡ status.Withheld) × Appends old new due.text
 Meets due status.Rejected old new = (due.status ≡ status.Rejected) × Appends old new due.text
 
--- the input is a plain program with its multipliers, and no point is feasible for the program
-abbrev pub NoPoint : List ℕ → Type 0
-NoPoint input = IsSomeAnd (plain_of input) (λ r. IsInfeasible r.0)
+-- ---- what a verdict that was printed says
+
+-- Behind a program, from this place on, stands a certificate whose verdict is true of all points of the program.
+pub record IsVerified (p : Program) (input : List ℕ) (from : Spot) : Type 0 where
+  pub certificate : Certificate
+  pub reads : reading.read_of p from.1 (drop from.0 input) ≡ Ok certificate
+  pub good : IsGood p certificate
+  pub holds : IsTrueOf p (verdict_of certificate)
+
+abbrev pub HasVerified : Program → List ℕ → Option Spot → Type 0
+HasVerified p input from = IsSomeAnd from (IsVerified p input)
+
+-- The text is that of a certificate whose verdict is true of all points of the program.
+pub record HasSolved (p : Program) (text : List ℕ) : Type 0 where
+  pub certificate : Certificate
+  pub prints : text ≡ certificate_text p certificate
+  pub good : IsGood p certificate
+  pub holds : IsTrueOf p (verdict_of certificate)
+
+abbrev pub SettlesProgram : Task → List ℕ → List ℕ → Program → Spot → Type 0
+SettlesProgram Check input text p behind = HasVerified p input (rest_of input behind)
+SettlesProgram Write input text p behind = ⊤
+SettlesProgram Solve input text p behind = HasSolved p text
+
+-- What Done says of an input and of the text that was due: the input is a program, and for `check` a certificate follows whose verdict is
+-- true of it; for `solve` the text is that of such a certificate.
+abbrev pub Settles : Task → List ℕ → List ℕ → Type 0
+Settles task input text = IsOkAnd (read_of input) (λ r. SettlesProgram task input text r.0 r.1)

@@ -1,45 +1,47 @@
-//! What is to be written for an input, and how the run is to end.
+//! The text that is to be written, and the status that comes with it.
 
-ghost use Rattle.std.specs.Prelude.{◌≡◌, ◌≢◌, ◌≤◌, length, Ok, IfOk, string_bytes};
-ghost use Rattle.qp_engine.specs.Due.{usage_due, refused_due, answer_due, op_word, one_leaf, due};
-ghost use Rattle.qp_engine.specs.Runs.{HasText, NoPoint};
-ghost use Rattle.check_law.specs.Check.{checked, answer};
-ghost use Rattle.program_law.specs.Verdict.{IsInfeasible};
+ghost use Rattle.std.specs.Prelude.{◌≡◌, ◌++◌, IfOk, string_bytes};
+ghost use Rattle.qp_engine.specs.Due.{said, usage_due, file_due, answer_due, op_word, past_text, certificate_word};
+ghost use Rattle.qp_engine.specs.Runs.{HasText};
+ghost use Rattle.qp_engine.specs.declared.status.Status.TheVariants as statuses;
 
 use crate::status::Status;
-use cert_check::check;
-use certificate_law::{Certificate, Node, Tree};
+use cert_text::CertKind;
 use check_law::Checked;
-use frac_core::{Frac, Memory, Op, Refused, Vector};
-use plain_reader::{ReadStop, read};
-use program_model::Program;
+use frac_core::{Memory, Op, Refused};
 use std::alloc::Global;
 use std::marker::Model;
 
-/// The text that is to be written, and the status that comes with it.
+/// A text, and how a run that writes it ends.
 #[derive(Drop)]
 pub(crate) struct Answer {
-    text: String,
+    text: Vec<u8>,
     status: Status,
 }
 
 impl Model for Answer {
-    ghost use Rattle.std.specs.Prelude.{string_bytes};
     ghost use Rattle.qp_engine.specs.Said.{Said};
     ghost use Rattle.qp_engine.specs.Runs.{HasText};
 
     ghost Value = { Said };
 
-    ghost view = { λ a. record { status = a.status; text = string_bytes a.text } };
+    ghost view = { λ a. record { status = a.status; text = a.text.items } };
 
     ghost invariant = { λ a. HasText a.status };
 }
 
 impl Answer {
+    pub(crate) fn of(status: Status, text: Vec<u8>) -> Answer
+        requires { HasText status }
+        ensures { result ≡ said status text.items }
+    {
+        Answer { text, status }
+    }
+
     pub(crate) fn text(&self) -> &[u8]
         ensures { result.now ≡ self.now.text }
     {
-        self.text.as_bytes()
+        &self.text
     }
 
     pub(crate) fn status(&self) -> Status
@@ -58,24 +60,34 @@ pub(crate) fn usage(alloc: Global) -> Result<Answer, Memory>
         alloc,
         "usage: qp solve|check|write|sample [--bases N] [--boxes N] [--kind K] [--number N]\n",
     )?;
-    Ok(Answer {
-        text,
-        status: Status::Usage,
-    })
+    Ok(Answer::of(Status::Usage, text.into_bytes()))
 }
 
-/// The answer to an input that isn't taken.
-pub(crate) fn refused(alloc: Global, kind: &str) -> Result<Answer, Memory>
-    ensures { IfOk result (λ a. a ≡ refused_due kind.now) }
+/// The answer to an input that isn't taken, by the line and the kind of its fault.
+pub(crate) fn refused(alloc: Global, line: usize, kind: &str) -> Result<Answer, Memory>
+    ensures { IfOk result (λ a. a ≡ file_due line kind.now) }
 {
-    let text = format!(in alloc; "FILE 0 {kind}\n")?;
-    Ok(Answer {
-        text,
-        status: Status::FileRefused,
-    })
+    let text = format!(in alloc; "FILE {line} {kind}\n")?;
+    Ok(Answer::of(Status::FileRefused, text.into_bytes()))
 }
 
-fn word_of(op: Op) -> &'static str
+/// The printed word of a certificate's fault.
+pub(crate) fn certificate_word(kind: CertKind) -> &'static str
+    ensures { result.now ≡ certificate_word kind }
+{
+    match kind {
+        CertKind::CertEnd => "CertEnd",
+        CertKind::CertAfter => "CertAfter",
+        CertKind::CertLine => "CertLine",
+        CertKind::CertName => "CertName",
+        CertKind::CertPast => "CertPast",
+        CertKind::CertNumber => "CertNumber",
+        CertKind::CertOrder => "CertOrder",
+        CertKind::CertMany => "CertMany",
+    }
+}
+
+fn op_word(op: Op) -> &'static str
     ensures { result.now ≡ op_word op }
 {
     match op {
@@ -86,69 +98,32 @@ fn word_of(op: Op) -> &'static str
     }
 }
 
+/// The text of a withheld verdict, by the site and the operation whose result doesn't fit.
+pub(crate) fn past_text(alloc: Global, site: &str, refused: Refused) -> Result<Vec<u8>, Memory>
+    ensures { IfOk result (λ v. v.items ≡ past_text site.now refused) }
+{
+    let Refused { op, left, right } = refused;
+    let word = op_word(op);
+    let text = format!(in alloc; "WITHHELD PAST\nSITE {site}\nOP {word} {left} {right}\nEND\n")?;
+    Ok(text.into_bytes())
+}
+
 /// The answer of a check.
-fn told(alloc: Global, checked: Checked) -> Result<Answer, Memory>
+pub(crate) fn told(alloc: Global, checked: Checked) -> Result<Answer, Memory>
     ensures { IfOk result (λ a. a ≡ answer_due checked) }
 {
     match checked {
-        Checked::Accepted => Ok(Answer {
-            text: String::from_str(alloc, "ACCEPTED\n")?,
-            status: Status::Done,
-        }),
-        Checked::Rejected { rule, place } => Ok(Answer {
-            text: format!(in alloc; "REJECTED {rule} {place}\n")?,
-            status: Status::Rejected,
-        }),
-        Checked::Past(Refused { op, left, right }) => {
-            let word = word_of(op);
-            Ok(Answer {
-                text: format!(in alloc;
-                    "WITHHELD PAST\nSITE CHECK\nOP {word} {left} {right}\nEND\n"
-                )?,
-                status: Status::Withheld,
-            })
+        Checked::Accepted => {
+            let text = String::from_str(alloc, "ACCEPTED\n")?;
+            Ok(Answer::of(Status::Done, text.into_bytes()))
+        }
+        Checked::Rejected { rule, place } => {
+            let text = format!(in alloc; "REJECTED {rule} {place}\n")?;
+            Ok(Answer::of(Status::Rejected, text.into_bytes()))
+        }
+        Checked::Past(refused) => {
+            let text = past_text(alloc, "CHECK", refused)?;
+            Ok(Answer::of(Status::Withheld, text))
         }
     }
-}
-
-/// The certificate that is one FARKAS leaf.
-fn one_leaf(alloc: Global, multipliers: Vector<Frac>) -> Result<Certificate, Memory>
-    ensures { IfOk result (λ c. c ≡ one_leaf multipliers) }
-{
-    let mut nodes = Tree::start(alloc);
-    nodes.put(Node::Farkas(multipliers))?;
-    match nodes.finish() {
-        Ok(tree) => Ok(Certificate::Infeasible(tree)),
-        Err(_) => unreachable!(),
-    }
-}
-
-/// The answer of the check of one FARKAS leaf.
-fn checked_leaf(
-    alloc: Global,
-    program: &Program,
-    multipliers: Vector<Frac>,
-) -> Result<Checked, Memory>
-    requires { length multipliers ≡ length program.now.rows }
-    ensures value { IfOk result (λ a. a ≡ answer (checked program.now (one_leaf multipliers))) }
-    ensures no_point { result ≡ Ok Checked.Accepted → IsInfeasible program.now }
-{
-    let certificate = one_leaf(alloc, multipliers)?;
-    check(alloc, program, &certificate)
-}
-
-/// The answer to an input.
-pub(crate) fn judged(alloc: Global, input: &[u8]) -> Result<Answer, Memory>
-    requires { length input.now ≤ 1073741824 }
-    ensures due { IfOk result (λ a. a ≡ due input.now) }
-    ensures no_point { IfOk result (λ a. a.status ≡ Status.Done → NoPoint input.now) }
-    ensures no_usage { IfOk result (λ a. a.status ≢ Status.Usage) }
-{
-    let (program, multipliers) = match read(alloc, input) {
-        Ok(read) => read,
-        Err(ReadStop::Memory) => return Err(Memory),
-        Err(ReadStop::NotPlain) => return refused(alloc, "NotYet"),
-    };
-    let checked = checked_leaf(alloc, &program, multipliers)?;
-    told(alloc, checked)
 }

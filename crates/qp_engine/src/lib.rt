@@ -2,8 +2,10 @@
 #![tactic(auto)]
 
 mod answers;
+mod judging;
 mod running;
 mod status;
+mod tasks;
 
 pub use running::run;
 pub use status::Status;

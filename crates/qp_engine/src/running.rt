@@ -1,13 +1,15 @@
 //! A run over a source and a sink.
 
-ghost use Rattle.std.specs.Prelude.{◌≡◌, ◌≢◌, ◌<◌, ◌^◌, [], length, true, false, IfSome, IfOk, OnOk, IsErrOf, string_bytes};
+ghost use Rattle.std.specs.Prelude.{◌≡◌, ◌≢◌, ◌<◌, ◌^◌, [], length, None, Some, IfSome, IfOk, OnOk, IsErrOf, string_bytes};
 ghost use Rattle.std.specs.Io.KnownBytes.{Keeps};
 ghost use Rattle.qp_io.specs.Causes.{Rose};
 ghost use Rattle.qp_engine.specs.Due.{due, usage_due};
-ghost use Rattle.qp_engine.specs.Runs.{is_check, Meets, NoPoint};
+ghost use Rattle.qp_engine.specs.Runs.{task_of, Meets, Settles};
 
-use crate::answers::{Answer, judged, refused, usage};
+use crate::answers::{Answer, refused, usage};
+use crate::judging::judged;
 use crate::status::Status;
+use crate::tasks::{Task, task_of};
 use frac_core::Memory;
 use qp_io::{Sink, SinkStop, Source};
 use qp_streams::{ReadStop, read_all, write_all};
@@ -32,19 +34,11 @@ impl From<Memory> for NoAnswer {
     }
 }
 
-fn is_check(words: &[String]) -> bool
-    ensures { result ≡ is_check words.now }
-{
-    match words {
-        [word] => word.as_str() == "check",
-        _ => false,
-    }
-}
-
 /// The answer to all that the source gives.
-fn answer_to<S: Source>(alloc: Global, source: &mut S) -> Result<Answer, NoAnswer>
-    ensures due { IfOk result (λ a. IfSome (S.left source.old) (λ input. a ≡ due input)) }
-    ensures no_point { IfOk result (λ a. a.status ≡ Status.Done → IfSome (S.left source.old) NoPoint) }
+fn answer_to<S: Source>(alloc: Global, task: Task, source: &mut S) -> Result<Answer, NoAnswer>
+    ensures due { IfOk result (λ a. IfSome (S.left source.old) (λ input. a ≡ due task input)) }
+    ensures settled { IfOk result (λ a. a.status ≡ Status.Done →
+        IfSome (S.left source.old) (λ input. Settles task input a.text)) }
     ensures no_usage { IfOk result (λ a. a.status ≢ Status.Usage) }
     ensures fault { IsErrOf result NoAnswer.ReadFault →
         Rose (S.faults source.old) (S.faults source.new) }
@@ -53,8 +47,8 @@ fn answer_to<S: Source>(alloc: Global, source: &mut S) -> Result<Answer, NoAnswe
         S.faults source.new ≡ S.faults source.old }
 {
     match read_all(alloc, source, LONGEST) {
-        Ok(input) => Ok(judged(alloc, &input)?),
-        Err(ReadStop::Long) => Ok(refused(alloc, "TextLong")?),
+        Ok(input) => Ok(judged(alloc, task, &input)?),
+        Err(ReadStop::Long) => Ok(refused(alloc, 0, "TextLong")?),
         Err(ReadStop::Fault) => Err(NoAnswer::ReadFault),
         Err(ReadStop::Memory) => Err(NoAnswer::Memory),
     }
@@ -76,22 +70,23 @@ fn written<T: Sink>(sink: &mut T, answer: &Answer) -> Status
 
 /// Runs the program: reads all that the source gives, writes what is due for it, and answers how it ended.
 ///
-/// The one task is `check`: the input is a plain program with a certificate of infeasibility that is one FARKAS leaf. On
-/// `Done` the certificate was accepted, and no rational point is feasible for the program. Other words are answered by the
-/// usage line, and nothing is read then. The whole text is built before its first byte is written.
+/// The words are one word, a task: `check` says whether the certificate behind a program holds; `write` writes a program's
+/// canonical text; `solve` decides a program, which for now it does only where the program isn't convex. Other words are answered
+/// by the usage line, and nothing is read then. The whole text is built before its first byte is written.
 pub fn run<S: Source, T: Sink>(
     alloc: Global,
     words: &[String],
     source: &mut S,
     sink: &mut T,
 ) -> Status
-    ensures words { is_check words.now ≡ false →
+    ensures words { task_of words.now ≡ None →
         Meets usage_due result (T.taken sink.old) (T.taken sink.new) }
-    ensures unread { is_check words.now ≡ false → (source.new ≡ source.old) × (result ≢ Status.ReadFault) }
-    ensures usage { result ≡ Status.Usage → is_check words.now ≡ false }
-    ensures due { is_check words.now ≡ true →
-        IfSome (S.left source.old) (λ input. Meets (due input) result (T.taken sink.old) (T.taken sink.new)) }
-    ensures no_point { result ≡ Status.Done → IfSome (S.left source.old) NoPoint }
+    ensures unread { task_of words.now ≡ None → (source.new ≡ source.old) × (result ≢ Status.ReadFault) }
+    ensures usage { result ≡ Status.Usage → task_of words.now ≡ None }
+    ensures due { (task : Task) → task_of words.now ≡ Some task →
+        IfSome (S.left source.old) (λ input. Meets (due task input) result (T.taken sink.old) (T.taken sink.new)) }
+    ensures settled { (task : Task) → task_of words.now ≡ Some task → result ≡ Status.Done →
+        IfSome (S.left source.old) (λ input. Settles task input (due task input).text) }
     ensures read_fault { result ≡ Status.ReadFault →
         Rose (S.faults source.old) (S.faults source.new) }
     ensures nothing_taken { result ≡ Status.ReadFault → Keeps (T.taken sink.old) (T.taken sink.new) }
@@ -99,13 +94,13 @@ pub fn run<S: Source, T: Sink>(
     ensures reads_count { result ≢ Status.ReadFault → S.faults source.new ≡ S.faults source.old }
     ensures writes_count { result ≢ Status.WriteFault → T.faults sink.new ≡ T.faults sink.old }
 {
-    if !is_check(words) {
+    let Some(task) = task_of(words) else {
         return match usage(alloc) {
             Ok(usage) => written(sink, &usage),
             Err(Memory) => Status::Memory,
         };
-    }
-    match answer_to(alloc, source) {
+    };
+    match answer_to(alloc, task, source) {
         Ok(answer) => written(sink, &answer),
         Err(NoAnswer::ReadFault) => Status::ReadFault,
         Err(NoAnswer::Memory) => Status::Memory,

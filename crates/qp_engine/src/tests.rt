@@ -5,61 +5,402 @@ use qp_io::{MemorySink, MemorySource, Sink, Source, SteadySink, SteadySource};
 use std::alloc::Global;
 use std::test::Fail;
 
-const PROGRAM: &str =
+const REFUTED: &str =
     "ROWS\n N obj\n L r1\n G r2\nCOLUMNS\n x r1 1 r2 1\nRHS\n RHS r1 1 r2 2\nENDATA\n";
 
-const ACCEPTED: &str = "INFEASIBLE\nFARKAS\nY r1 -1\nY r2 1\nEND\n";
+const REFUTATION: &str = "INFEASIBLE\nFARKAS\nY r1 -1\nY r2 1\nEND\n";
+
+const FIRST: &str =
+    "NAME first\nROWS\n N obj\n L c1\n L c2\nCOLUMNS\n x c1 1 c2 -1\n y obj -32 c1 1\n y c2 2\nRHS\n RHS obj -64\n RHS c1 7 c2 4\nBOUNDS\n UP BND y 4\nQUADOBJ\n x x 2\n y y 8\nENDATA\n";
+
+const POINT: &str = "POINT x 2\nPOINT y 3\n";
+
+const SQUARES: &str = "SQUARE 2\nCOEF x 1\nSQUARE 8\nCOEF y 1\n";
+
+const LEAF: &str = "BOUND\nW x 2\nW y 3\nY c2 -4\n";
 
 const USAGE: &str =
     "usage: qp solve|check|write|sample [--bases N] [--boxes N] [--kind K] [--number N]\n";
 
-fn joined(alloc: Global, front: &str, rest: &str) -> Result<Vec<u8>, Fail> {
+fn joined(alloc: Global, parts: &[&str]) -> Result<Vec<u8>, Fail> {
     let mut bytes = Vec::new(alloc);
-    bytes.extend_from_slice(front.as_bytes())?;
-    bytes.extend_from_slice(rest.as_bytes())?;
+    for part in parts {
+        bytes.extend_from_slice(part.as_bytes())?;
+    }
     Ok(bytes)
 }
 
-fn check<S: Source, T: Sink>(alloc: Global, source: &mut S, sink: &mut T) -> Result<Status, Fail> {
-    let words = vec![in alloc; String::from_str(alloc, "check")?]?;
+fn done<S: Source, T: Sink>(
+    alloc: Global,
+    word: &str,
+    source: &mut S,
+    sink: &mut T,
+) -> Result<Status, Fail> {
+    let words = vec![in alloc; String::from_str(alloc, word)?]?;
     Ok(run(alloc, &words, source, sink))
 }
 
+// Whether a task on an input ends so and writes this text, with so many bytes per read.
+fn answers(
+    alloc: Global,
+    word: &str,
+    input: &[&str],
+    per_read: usize,
+    status: Status,
+    text: &str,
+) -> Result<bool, Fail>
+    requires { 1 ≤ per_read }
+{
+    let mut source = SteadySource::of(joined(alloc, input)?, per_read);
+    let mut sink = SteadySink::of(alloc, 4096);
+    let ended = done(alloc, word, &mut source, &mut sink)?;
+    Ok(ended == status && sink.bytes() == text.as_bytes())
+}
+
 #[test]
-fn answers_of_check(rt: HostRuntime) -> Result<(), Fail> {
+fn certificates_of_a_refuted_program(rt: HostRuntime) -> Result<(), Fail> {
     let alloc = rt.alloc();
     let past = "INFEASIBLE\nFARKAS\nY r1 -1\nY r2 170141183460469231731687303715884105727\nEND\n";
     let past_text =
         "WITHHELD PAST\nSITE CHECK\nOP MUL 170141183460469231731687303715884105727 2\nEND\n";
-    let bounds = "ROWS\n N obj\n L r1\n G r2\nCOLUMNS\n x r1 1 r2 1\nRHS\n RHS r1 1 r2 2\nBOUNDS\n";
-    for (program, certificate, status, text) in [
-        (PROGRAM, ACCEPTED, Status::Done, "ACCEPTED\n"),
+    for (certificate, status, text) in [
+        (REFUTATION, Status::Done, "ACCEPTED\n"),
         (
-            PROGRAM,
+            "\n* kept\nINFEASIBLE\nFARKAS\nY r1 -1\nY r2 1\nEND\n",
+            Status::Done,
+            "ACCEPTED\n",
+        ),
+        (
             "INFEASIBLE\nFARKAS\nY r1 -1\nEND\n",
             Status::Rejected,
             "REJECTED 9 1\n",
         ),
         (
-            PROGRAM,
             "INFEASIBLE\nFARKAS\nY r1 1\nEND\n",
             Status::Rejected,
             "REJECTED 7 1\n",
         ),
-        (PROGRAM, past, Status::Withheld, past_text),
-        ("", "", Status::FileRefused, "FILE 0 NotYet\n"),
-        (bounds, ACCEPTED, Status::FileRefused, "FILE 0 NotYet\n"),
+        (past, Status::Withheld, past_text),
+        (
+            "INFEASIBLE\nFARKAS\nY r1 -1\nY r2 2/4\nEND\n",
+            Status::FileRefused,
+            "FILE 13 CertNumber\n",
+        ),
+        (
+            "INFEASIBLE\nFARKAS\nY r2 2/4\nEND\n",
+            Status::FileRefused,
+            "FILE 12 CertNumber\n",
+        ),
+        ("\n\n", Status::FileRefused, "FILE 12 CertEnd\n"),
+        ("", Status::FileRefused, "FILE 10 CertEnd\n"),
     ] {
         for per_read in [1, 7, 4096] {
-            let mut source = SteadySource::of(joined(alloc, program, certificate)?, per_read);
-            let mut sink = SteadySink::of(alloc, 4096);
-            assert_eq!(rt;
-                check(alloc, &mut source, &mut sink)?,
-                status,
+            assert!(rt;
+                answers(
+                    alloc,
+                    "check",
+                    &[REFUTED, certificate],
+                    per_read,
+                    status,
+                    text
+                )?,
                 "{certificate}"
             );
-            assert_eq!(rt; sink.bytes(), text.as_bytes(), "{certificate}");
         }
+    }
+    Ok(())
+}
+
+#[test]
+fn certificates_of_an_optimal_point(rt: HostRuntime) -> Result<(), Fail> {
+    let alloc = rt.alloc();
+    for (value, point, squares, tree, status, text) in [
+        (
+            "VALUE 8\n",
+            POINT,
+            SQUARES,
+            LEAF,
+            Status::Done,
+            "ACCEPTED\n",
+        ),
+        (
+            "VALUE 7\n",
+            POINT,
+            SQUARES,
+            LEAF,
+            Status::Rejected,
+            "REJECTED 4 0\n",
+        ),
+        (
+            "VALUE 8\n",
+            POINT,
+            SQUARES,
+            "BOUND\nW x 2\nW y 3\nY c2 -3\n",
+            Status::Rejected,
+            "REJECTED 8 1\n",
+        ),
+        (
+            "VALUE 8\n",
+            "POINT x 5\nPOINT y 3\n",
+            SQUARES,
+            LEAF,
+            Status::Rejected,
+            "REJECTED 1 1\n",
+        ),
+        (
+            "VALUE 8\n",
+            POINT,
+            "SQUARE 3\nCOEF x 1\nSQUARE 8\nCOEF y 1\n",
+            LEAF,
+            Status::Rejected,
+            "REJECTED 5 1\n",
+        ),
+        (
+            "VALUE 8\n",
+            POINT,
+            SQUARES,
+            "CROSS x\n",
+            Status::Rejected,
+            "REJECTED 10 1\n",
+        ),
+        (
+            "VALUE 8\n",
+            POINT,
+            SQUARES,
+            "BRANCH x 2\nBOUND\nW x 2\nW y 3\nY c2 -4\nCROSS x\n",
+            Status::Rejected,
+            "REJECTED 6 1\n",
+        ),
+        (
+            "VALUE 8\n",
+            "POINT x 2\nPOINT x 2\nPOINT y 3\n",
+            SQUARES,
+            LEAF,
+            Status::FileRefused,
+            "FILE 22 CertOrder\n",
+        ),
+    ] {
+        let input = [FIRST, "OPTIMAL\n", value, point, squares, tree, "END\n"];
+        assert!(rt;
+            answers(alloc, "check", &input, 4096, status, text)?,
+            "{text}"
+        );
+    }
+    let cut = [FIRST, "OPTIMAL\nVALUE 8\n", POINT, SQUARES, LEAF];
+    assert!(rt;
+        answers(
+            alloc,
+            "check",
+            &cut,
+            4096,
+            Status::FileRefused,
+            "FILE 31 CertEnd\n"
+        )?
+    );
+    Ok(())
+}
+
+#[test]
+fn certificates_of_small_programs(rt: HostRuntime) -> Result<(), Fail> {
+    let alloc = rt.alloc();
+    let fraction =
+        "ROWS\n N o\nCOLUMNS\n M 'MARKER' 'INTORG'\n x o 0\nBOUNDS\n LO B x 1/5\n UP B x 4/5\nENDATA\n";
+    let falling = "ROWS\n N o\nCOLUMNS\n M 'MARKER' 'INTORG'\n x o -1\nENDATA\n";
+    let kept = "ROWS\n N o\n L a\nCOLUMNS\n x o -1 a 2\nRHS\n R a 3\nENDATA\n";
+    let curved = "ROWS\n N o\nCOLUMNS\n x o -1\nQUADOBJ\n x x 2\nENDATA\n";
+    let down = "ROWS\n N o\nCOLUMNS\n x o -1\nQUADOBJ\n x x -2\nENDATA\n";
+    let large =
+        "ROWS\n N o\nCOLUMNS\n x o 170141183460469231731687303715884105727\n y o 170141183460469231731687303715884105727\nENDATA\n";
+    let next = "WITHHELD PAST\nSITE CHECK\nOP ADD 170141183460469231731687303715884105727 1\nEND\n";
+    let sum =
+        "WITHHELD PAST\nSITE CHECK\nOP ADD 170141183460469231731687303715884105727 170141183460469231731687303715884105727\nEND\n";
+    for (program, certificate, status, text) in [
+        (
+            fraction,
+            "INFEASIBLE\nBRANCH x 0\nCROSS x\nCROSS x\nEND\n",
+            Status::Done,
+            "ACCEPTED\n",
+        ),
+        (
+            fraction,
+            "INFEASIBLE\nBRANCH x 1\nCROSS x\nCROSS x\nEND\n",
+            Status::Rejected,
+            "REJECTED 10 2\n",
+        ),
+        (
+            fraction,
+            "INFEASIBLE\nBRANCH x 170141183460469231731687303715884105727\nCROSS x\nCROSS x\nEND\n",
+            Status::Withheld,
+            next,
+        ),
+        (
+            falling,
+            "UNBOUNDED\nRAY x 1\nEND\n",
+            Status::Done,
+            "ACCEPTED\n",
+        ),
+        (
+            falling,
+            "UNBOUNDED\nRAY x -1\nEND\n",
+            Status::Rejected,
+            "REJECTED 12 1\n",
+        ),
+        (
+            falling,
+            "UNBOUNDED\nEND\n",
+            Status::Rejected,
+            "REJECTED 14 0\n",
+        ),
+        (
+            falling,
+            "OPTIMAL\nVALUE 0\nPOINT x 3/2\nCROSS x\nEND\n",
+            Status::Rejected,
+            "REJECTED 3 1\n",
+        ),
+        (
+            falling,
+            "OPTIMAL\nVALUE 0\nPOINT x -1\nCROSS x\nEND\n",
+            Status::Rejected,
+            "REJECTED 2 1\n",
+        ),
+        (
+            kept,
+            "UNBOUNDED\nRAY x 1\nEND\n",
+            Status::Rejected,
+            "REJECTED 11 1\n",
+        ),
+        (
+            curved,
+            "UNBOUNDED\nRAY x 1\nSQUARE 2\nCOEF x 1\nEND\n",
+            Status::Rejected,
+            "REJECTED 13 1\n",
+        ),
+        (
+            curved,
+            "NOTCONVEX\nVECTOR x 1\nEND\n",
+            Status::Rejected,
+            "REJECTED 15 0\n",
+        ),
+        (
+            down,
+            "NOTCONVEX\nVECTOR x 1\nEND\n",
+            Status::Done,
+            "ACCEPTED\n",
+        ),
+        (
+            large,
+            "OPTIMAL\nVALUE 0\nPOINT x 1\nPOINT y 1\nBOUND\nEND\n",
+            Status::Withheld,
+            sum,
+        ),
+    ] {
+        assert!(rt;
+            answers(alloc, "check", &[program, certificate], 4096, status, text)?,
+            "{certificate}"
+        );
+    }
+    Ok(())
+}
+
+#[test]
+fn canonical_texts(rt: HostRuntime) -> Result<(), Fail> {
+    let alloc = rt.alloc();
+    let front =
+        "ROWS\n N obj\n E e1\nCOLUMNS\n x obj 1 e1 1\n y e1 1\nRHS\n S e1 5\nRANGES\n S e1 -2\nBOUNDS\n UP S y -1\n";
+    let text =
+        "NAME\nROWS\n N obj\n G e1\nCOLUMNS\n x obj 1\n x e1 1\n y obj 0\n y e1 1\nRHS\n RHS e1 3\nRANGES\n RNG e1 2\nBOUNDS\n MI BND y\n UP BND y -1\nQUADOBJ\n x x 2\n x y 1\n y y 2\nENDATA\n";
+    for quadratic in [
+        "QUADOBJ\n x x 2\n y x 1\n y y 2\n",
+        "QMATRIX\n x x 2\n x y 1\n y x 1\n y y 2\n",
+        "DMATRIX\n x x 1\n x y 1/2\n y x .5\n y y 1.0\n",
+    ] {
+        assert!(rt;
+            answers(
+                alloc,
+                "write",
+                &[front, quadratic, "ENDATA\n"],
+                4096,
+                Status::Done,
+                text
+            )?,
+            "{quadratic}"
+        );
+    }
+    assert!(rt;
+        answers(
+            alloc,
+            "write",
+            &[text, "\n* behind\n"],
+            7,
+            Status::Done,
+            text
+        )?
+    );
+    Ok(())
+}
+
+#[test]
+fn faults_of_programs(rt: HostRuntime) -> Result<(), Fail> {
+    let alloc = rt.alloc();
+    let base = "ROWS\n N obj\nCOLUMNS\n x obj 1\n y obj 1\n";
+    for (front, more, text) in [
+        ("", "", "FILE 1 NoEnd\n"),
+        ("ROWS\n N obj", "", "FILE 3 NoEnd\n"),
+        ("ROWS\n L c\nCOLUMNS\n", "", "FILE 3 NoObjective\n"),
+        (base, "QSECTION\n", "FILE 6 UnknownSection\n"),
+        (base, "BOUNDS\n SC B x 4\n", "FILE 7 BoundKind\n"),
+        (base, "QMATRIX\n x y 1\nENDATA\n", "FILE 7 NotSymmetric\n"),
+        (base, "RHS\n RHS z 1\n", "FILE 7 NameUnknown\n"),
+        (base, "ENDATA\nmore", "FILE 7 SectionOrder\n"),
+    ] {
+        for word in ["write", "solve"] {
+            assert!(rt;
+                answers(alloc, word, &[front, more], 4096, Status::FileRefused, text)?,
+                "{text}"
+            );
+        }
+    }
+    Ok(())
+}
+
+#[test]
+fn programs_that_are_not_convex(rt: HostRuntime) -> Result<(), Fail> {
+    let alloc = rt.alloc();
+    let past =
+        "WITHHELD PAST\nSITE SQUARES\nOP MUL 170141183460469231731687303715884105727 170141183460469231731687303715884105727/3\nEND\n";
+    let not_yet = "FILE 9 NotYet\n";
+    for (pairs, status, text) in [
+        (
+            " y x 1\n",
+            Status::Done,
+            "NOTCONVEX\nVECTOR x 1\nVECTOR y -1\nEND\n",
+        ),
+        (
+            " x x 1\n x y 2\n y y 1\n",
+            Status::Done,
+            "NOTCONVEX\nVECTOR x -2\nVECTOR y 1\nEND\n",
+        ),
+        (
+            " x y 1\n y y 2\n",
+            Status::Done,
+            "NOTCONVEX\nVECTOR x 1\nVECTOR y -1/2\nEND\n",
+        ),
+        (
+            " x x 3\n x y 170141183460469231731687303715884105727\n",
+            Status::Withheld,
+            past,
+        ),
+        (" x x 3\n y y 1\n", Status::FileRefused, not_yet),
+    ] {
+        let input = [
+            "ROWS\n N obj\nCOLUMNS\n x obj 0\n y obj 0\nQUADOBJ\n",
+            pairs,
+            "ENDATA\n",
+        ];
+        assert!(rt;
+            answers(alloc, "solve", &input, 4096, status, text)?,
+            "{pairs}"
+        );
     }
     Ok(())
 }
@@ -67,14 +408,20 @@ fn answers_of_check(rt: HostRuntime) -> Result<(), Fail> {
 #[test]
 fn faults_of_the_outside(rt: HostRuntime) -> Result<(), Fail> {
     let alloc = rt.alloc();
-    let input = joined(alloc, PROGRAM, ACCEPTED)?;
+    let input = joined(alloc, &[REFUTED, REFUTATION])?;
     let mut source = MemorySource::of(input, 16, vec![in alloc; 2u64]?);
     let mut sink = SteadySink::of(alloc, 4096);
-    assert_eq!(rt; check(alloc, &mut source, &mut sink)?, Status::ReadFault);
+    assert_eq!(rt;
+        done(alloc, "check", &mut source, &mut sink)?,
+        Status::ReadFault
+    );
     assert_eq!(rt; sink.bytes(), b"".as_slice());
-    let mut source = SteadySource::of(joined(alloc, PROGRAM, ACCEPTED)?, 4096);
+    let mut source = SteadySource::of(joined(alloc, &[REFUTED, REFUTATION])?, 4096);
     let mut sink = MemorySink::of(alloc, 4, vec![in alloc; 2u64]?);
-    assert_eq!(rt; check(alloc, &mut source, &mut sink)?, Status::WriteFault);
+    assert_eq!(rt;
+        done(alloc, "check", &mut source, &mut sink)?,
+        Status::WriteFault
+    );
     assert_eq!(rt; sink.bytes(), b"ACCE".as_slice());
     Ok(())
 }
@@ -82,12 +429,12 @@ fn faults_of_the_outside(rt: HostRuntime) -> Result<(), Fail> {
 #[test]
 fn words_that_are_not_taken(rt: HostRuntime) -> Result<(), Fail> {
     let alloc = rt.alloc();
-    for line in ["", "prove", "solve", "check check", "check --bases 1"] {
+    for line in ["", "prove", "sample", "check check", "check --bases 1"] {
         let mut words = Vec::new(alloc);
         for word in line.split_ascii_whitespace() {
             words.push(String::from_str(alloc, word)?)?;
         }
-        let mut source = SteadySource::of(joined(alloc, PROGRAM, ACCEPTED)?, 4096);
+        let mut source = SteadySource::of(joined(alloc, &[REFUTED, REFUTATION])?, 4096);
         let mut sink = SteadySink::of(alloc, 4096);
         assert_eq!(rt;
             run(alloc, &words, &mut source, &mut sink),

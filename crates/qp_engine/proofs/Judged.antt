@@ -1,0 +1,32 @@
+-- What is due, case by case.
+use Rattle.std.proofs.Common.{◌≡◌, ℕ, ◌≤◌, ◌<◌, List, length, Result, Ok, Err, refl, subst, codes, arith}
+use Rattle.std.proofs.lemmas.Bool.{le-ltb, lt-ltb}
+use Rattle.program_law.specs.Program.{Program}
+use Rattle.check_law.specs.Chain.{NoTestFails}
+use Rattle.check_law.specs.Check.{answer}
+use Rattle.check_law.specs.declared.Checked.TheVariants.{Rejected}
+use Rattle.check_law.specs.declared.Event.{Event}
+use Rattle.check_law.specs.declared.Event.TheVariants.{Past, Failed}
+use Rattle.mps_grammar.specs.Words.{word_of}
+use Rattle.mps_grammar.specs.Verdict.{Fault}
+use Rattle.mps_grammar.specs.Reading.{Spot, read_of}
+use Rattle.qp_engine.specs.Due.{longest, due, file_due, task_due}
+use Rattle.qp_engine.specs.declared.tasks.Task.{Task}
+
+pub long_due : (task : Task) (input : List ℕ) → longest < length input → due task input ≡ file_due 0 (codes "TextLong")
+unfolding due
+long_due task input long = rw (lt-ltb longest (length input) long) refl
+
+pub fault_due : (task : Task) (input : List ℕ) (fault : Fault) → length input ≤ longest → read_of input ≡ Err fault → due task input ≡ file_due fault.0 (word_of fault.1)
+unfolding due
+fault_due task input fault short e = rw (le-ltb longest (length input) short, e) refl
+
+pub program_due : (task : Task) (input : List ℕ) (p : Program) (spot : Spot) → length input ≤ longest → read_of input ≡ Ok (p, spot) → due task input ≡ task_due task input p spot
+unfolding due
+program_due task input p spot short e = rw (le-ltb longest (length input) short, e) refl
+
+-- a calculation in which no test fails isn't rejected
+pub not_rejected : (r : Result (Unit {0}) Event) (rule place : ℕ) → NoTestFails r → Rejected rule place ≡ answer r → ⊥
+not_rejected (Ok tt) rule place none e = cc
+not_rejected (Err (Past refused)) rule place none e = cc
+not_rejected (Err (Failed r p)) rule place none e = none

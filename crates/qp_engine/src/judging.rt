@@ -1,0 +1,172 @@
+//! What is to be written for an input, and how the run is to end.
+
+ghost use Rattle.std.specs.Prelude.{◌≡◌, ◌≢◌, ◌≤◌, ◌+◌, ◌-◌, ◌<◌, ◌^◌, length, codes, IfOk};
+ghost use Rattle.program_law.specs.Verdict.{IsTrueOf};
+ghost use Rattle.certificate_law.specs.Good.{IsGood, verdict_of};
+ghost use Rattle.certificate_law.specs.declared.Certificate.TheVariants.{NotConvex};
+ghost use Rattle.check_law.specs.Check.{checked, answer};
+ghost use Rattle.mps_grammar.specs.Reading.{read_of, rest_of};
+ghost use Rattle.qp_engine.specs.Due.{due, file_due, check_due, write_due, found_due, curvature_due, task_due};
+ghost use Rattle.qp_engine.specs.Runs.{Settles, SettlesProgram, HasVerified, HasSolved};
+ghost use Rattle.mps_tokens.specs.Lines.{raw_lines};
+ghost use Rattle.mps_reader.specs.Reading.{spot_of};
+ghost use Rattle.cert_text.specs.Writable.{IsWritable};
+ghost use Rattle.convexity.specs.ReductionCalculation.{squares_of};
+
+use crate::answers::{Answer, certificate_word, past_text, refused, told};
+use crate::status::Status;
+use crate::tasks::Task;
+use cert_check::check;
+use cert_text::{CertStop, certificates_that_are_read_fit, read_certificate, write_certificate};
+use certificate_law::Certificate;
+use check_law::{Checked, good_fails_no_test};
+use convexity::{Curvature, squares};
+use exact_matrix::Stop;
+use frac_core::Memory;
+use mps_reader::{Place, ReadStop, read, rest};
+use mps_tokens::next_line;
+use mps_writer::write;
+use program_model::Program;
+use std::alloc::Global;
+
+/// How many lines a text has.
+fn line_count(text: &[u8]) -> usize
+    requires { length text.now < 2 ^ 63 }
+    ensures count { result ≡ length (raw_lines text.now) }
+    ensures few { result ≤ length text.now }
+{
+    let mut count = 0;
+    let mut from = 0;
+    while from < text.len() {
+        from = next_line(text, from).next;
+        count += 1;
+    }
+    count
+}
+
+/// The answer to the certificate behind a program.
+fn checked(alloc: Global, program: &Program, input: &[u8], place: Place) -> Result<Answer, Memory>
+    requires short { length input.now ≤ 1073741824 }
+    requires byte { place.byte ≤ length input.now }
+    requires line { place.line ≤ 1073741824 }
+    ensures due { IfOk result (λ a. a ≡ check_due program.now input.now (rest_of input.now (spot_of place))) }
+    ensures holds { IfOk result (λ a. a.status ≡ Status.Done → HasVerified program.now input.now (rest_of input.now (spot_of place))) }
+    ensures no_usage { IfOk result (λ a. a.status ≢ Status.Usage) }
+{
+    let Some(from) = rest(input, place) else {
+        let count = line_count(input);
+        return refused(alloc, count + 1, "CertEnd");
+    };
+    certificates_that_are_read_fit();
+    match read_certificate(alloc, program, &input[from.byte..], from.line) {
+        Ok(certificate) => told(alloc, check(alloc, program, &certificate)?),
+        Err(CertStop::Fault { line, kind }) => refused(
+            alloc,
+            line as usize,
+            certificate_word(kind),
+        ),
+        Err(CertStop::Memory) => Err(Memory),
+    }
+}
+
+/// The answer that is a program's canonical text.
+fn written(alloc: Global, program: &Program) -> Result<Answer, Memory>
+    ensures { IfOk result (λ a. a ≡ write_due program.now) }
+{
+    let mut text = Vec::new(alloc);
+    write(alloc, program, &mut text)?;
+    Ok(Answer::of(Status::Done, text))
+}
+
+/// The answer that is a found certificate, which is checked before it is printed.
+fn found(alloc: Global, program: &Program, certificate: &Certificate) -> Result<Answer, Memory>
+    requires fits { IsWritable program.now certificate.now }
+    requires good { IsGood program.now certificate.now }
+    ensures due { IfOk result (λ a. a ≡ found_due program.now certificate.now (answer (checked program.now certificate.now))) }
+    ensures holds { IfOk result (λ a. a.status ≡ Status.Done → HasSolved program.now a.text) }
+    ensures no_usage { IfOk result (λ a. a.status ≢ Status.Usage) }
+{
+    good_fails_no_test();
+    let _rows = program.rows();
+    match check(alloc, program, certificate)? {
+        Checked::Accepted => {
+            let mut text = Vec::new(alloc);
+            write_certificate(program, certificate, &mut text)?;
+            Ok(Answer::of(Status::Done, text))
+        }
+        Checked::Past(refused) => {
+            let mut text = past_text(alloc, "CHECK", refused)?;
+            write_certificate(program, certificate, &mut text)?;
+            Ok(Answer::of(Status::Withheld, text))
+        }
+        Checked::Rejected { .. } => unreachable!(),
+    }
+}
+
+/// The answer to a program, whose ENDATA stands in a line.
+fn decided(alloc: Global, program: &Program, line: u32) -> Result<Answer, Memory>
+    ensures due { IfOk result (λ a. a ≡ curvature_due program.now line (squares_of program.now.pairs)) }
+    ensures holds { IfOk result (λ a. a.status ≡ Status.Done → HasSolved program.now a.text) }
+    ensures no_usage { IfOk result (λ a. a.status ≢ Status.Usage) }
+{
+    match squares(alloc, program) {
+        Ok(Curvature::Negative(vector)) => found(alloc, program, &Certificate::NotConvex(vector)),
+        Ok(Curvature::Squares(_)) => refused(alloc, line as usize, "NotYet"),
+        Err(Stop::Past(past)) => {
+            let text = past_text(alloc, "SQUARES", past)?;
+            Ok(Answer::of(Status::Withheld, text))
+        }
+        Err(Stop::Memory) => Err(Memory),
+    }
+}
+
+/// The answer to a program behind which something stands.
+fn not_alone(alloc: Global, more: Place) -> Result<Answer, Memory>
+    ensures due { IfOk result (λ a. a ≡ file_due more.line (codes "SectionOrder")) }
+    ensures status { IfOk result (λ a. a.status ≡ Status.FileRefused) }
+{
+    refused(alloc, more.line as usize, "SectionOrder")
+}
+
+/// The answer to a program, behind which the input goes on at a place.
+fn answered(
+    alloc: Global,
+    task: Task,
+    program: &Program,
+    input: &[u8],
+    place: Place,
+) -> Result<Answer, Memory>
+    requires short { length input.now ≤ 1073741824 }
+    requires byte { place.byte ≤ length input.now }
+    requires line { (1 ≤ place.line) × (place.line ≤ 1073741824) }
+    ensures due { IfOk result (λ a. a ≡ task_due task input.now program.now (spot_of place)) }
+    ensures settled { IfOk result (λ a. a.status ≡ Status.Done →
+        SettlesProgram task input.now a.text program.now (spot_of place)) }
+    ensures no_usage { IfOk result (λ a. a.status ≢ Status.Usage) }
+{
+    match task {
+        Task::Check => checked(alloc, program, input, place),
+        Task::Write => match rest(input, place) {
+            Some(more) => not_alone(alloc, more),
+            None => written(alloc, program),
+        },
+        Task::Solve => match rest(input, place) {
+            Some(more) => not_alone(alloc, more),
+            None => decided(alloc, program, place.line - 1),
+        },
+    }
+}
+
+/// The answer to an input.
+pub(crate) fn judged(alloc: Global, task: Task, input: &[u8]) -> Result<Answer, Memory>
+    requires { length input.now ≤ 1073741824 }
+    ensures due { IfOk result (λ a. a ≡ due task input.now) }
+    ensures settled { IfOk result (λ a. a.status ≡ Status.Done → Settles task input.now a.text) }
+    ensures no_usage { IfOk result (λ a. a.status ≢ Status.Usage) }
+{
+    match read(alloc, input) {
+        Ok((program, place)) => answered(alloc, task, &program, input, place),
+        Err(ReadStop::Fault { line, kind }) => refused(alloc, line as usize, kind.word()),
+        Err(ReadStop::Memory) => Err(Memory),
+    }
+}
