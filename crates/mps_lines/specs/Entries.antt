@@ -1,5 +1,5 @@
 -- Numbers as they are kept: by the places of columns and rows.
-use Rattle.std.specs.Prelude.{◌≡◌, ℕ, suc, ◌+◌, ◌*◌, ◌==◌, ◌<◌, ◌&&◌, ◌||◌, Bool, false, List, length, Option, Some, None, slice_index_or}
+use Rattle.std.specs.Prelude.{◌≡◌, ℕ, zero, suc, ◌+◌, ◌*◌, ◌==◌, ◌<◌, ◌&&◌, ◌||◌, Bool, true, false, List, length, Option, Some, None, slice_index_or}
 use Rattle.std.specs.List.{list_any}
 use Rattle.mps_lines.specs.declared.numbers.Entry.{Entry}
 use Rattle.mps_lines.specs.declared.numbers.Target.{Target}
@@ -8,7 +8,7 @@ use Rattle.mps_lines.specs.declared.numbers.Target.TheVariants as targets
 -- what a row is, by its place among the objective and the rows of the program
 abbrev pub target_at : Option ℕ → Target
 target_at None = targets.Unused
-target_at (Some 0) = targets.Objective
+target_at (Some zero) = targets.Objective
 target_at (Some (suc k)) = targets.Row k
 
 abbrev pub is_place : ℕ → Option ℕ → Bool
@@ -57,3 +57,9 @@ second_twice es once column first (Some second) = (second == first) || pair_give
 -- whether one of a column's pairs was given, or they are one pair
 abbrev pub pair_twice : List Entry → Bool → ℕ → ℕ → Option ℕ → Bool
 pair_twice es once column first second = pair_given es once column first || second_twice es once column first second
+
+-- the place of a row after so many rows of the program, and after an objective or before it
+abbrev pub place_after : Bool → ℕ → Bool → Option ℕ
+place_after true bound objective = Some (bound + 1)
+place_after false bound true = None
+place_after false bound false = Some 0

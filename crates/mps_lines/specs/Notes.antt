@@ -2,7 +2,7 @@
 use Rattle.std.specs.Prelude.{◌≡◌, ℕ, ◌≤◌, List, [], ◌∷◌, length}
 use Rattle.mps_grammar.specs.Told.{Told, names_of, used_names}
 use Rattle.mps_lines.specs.declared.notes.Notes.{Notes}
-use Rattle.mps_lines.specs.Names.{Differ}
+use Rattle.mps_lines.specs.Names.{Differ, AreNames}
 use Rattle.mps_lines.specs.Told.{tellings_of, AreEntries, bounds_of, AreBounds, text_in}
 
 -- right sides and ranges stand under the empty name
@@ -27,9 +27,10 @@ told_in n =
       pairs = tellings_of (names_of n.columns) (names_of n.columns) n.pairs;
     }
 
--- names differ, and each number stands for a column and a row that are there
+-- names are names that a program may have and differ, and each number stands for a column and a row that are there
 pub record IsSound (n : Notes) : Type 0 where
   pub rows_differ : Differ (names_of n.rows)
+  pub column_names : AreNames (names_of n.columns)
   pub columns_differ : Differ (names_of n.columns)
   pub few_columns : length n.columns ≤ 128
   pub entries : AreEntries (names_of n.columns) (names_of n.rows) (used_names n.rows) n.entries

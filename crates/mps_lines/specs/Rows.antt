@@ -1,12 +1,13 @@
 -- The rows as they are kept.
-use Rattle.std.specs.Prelude.{◌≡◌, ℕ, ◌≤◌, List, [], map, length, slice_get, Option, Some, None, is_some}
+use Rattle.std.specs.Prelude.{◌≡◌, ℕ, ◌≤◌, List, map, length, slice_get, Option, Some, None, is_some}
 use Rattle.mps_tokens.specs.declared.words.RowKind.{RowKind}
 use Rattle.program_law.specs.Places.{place_of}
+use Rattle.program_law.specs.Program.{marker}
 use Rattle.mps_grammar.specs.Told.{names_of, program_rows, objective_in, used_names}
 use Rattle.mps_lines.specs.declared.rows.RowUse.{RowUse}
 use Rattle.mps_lines.specs.declared.rows.Rows.TheInside.{Inside}
 use Rattle.mps_lines.specs.Named.{things_of}
-use Rattle.mps_lines.specs.Names.{Differ}
+use Rattle.mps_lines.specs.Names.{Differ, AreNames}
 
 abbrev pub with_kind : List ℕ × RowUse → List ℕ × RowKind
 with_kind row = (row.0, row.1.kind)
@@ -24,7 +25,8 @@ ArePlaced rows = (i : ℕ) (row : List ℕ × RowUse) → slice_get rows i ≡ S
 
 pub record IsRows (rows : Inside) : Type 0 where
   pub differ : Differ (names_of rows.named)
-  pub filled : place_of (names_of rows.named) [] ≡ None
+  pub names : AreNames (names_of rows.named)
+  pub no_marker : place_of (names_of rows.named) marker ≡ None
   pub bound : rows.bound ≡ length (program_rows (kinds_in rows))
   pub few : rows.bound ≤ 128
   pub objective : rows.objective ≡ is_some (objective_in (kinds_in rows))

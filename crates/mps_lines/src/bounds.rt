@@ -55,10 +55,8 @@ fn needs_number(kind: BoundKind) -> bool
         | BoundKind::Fixed
         | BoundKind::LowerInteger
         | BoundKind::UpperInteger => true,
-        BoundKind::Free
-        | BoundKind::MinusInfinity
-        | BoundKind::PlusInfinity
-        | BoundKind::Binary => false,
+        BoundKind::Free | BoundKind::MinusInfinity | BoundKind::PlusInfinity | BoundKind::Binary =>
+            false,
     }
 }
 
@@ -76,12 +74,7 @@ fn value_of(spelling: Option<&[u8]>) -> Result<Frac, FaultKind>
 }
 
 /// Puts a bound of the used set last.
-fn put_bound(
-    alloc: Global,
-    bounds: &mut Bounds,
-    set: &[u8],
-    bound: Bound,
-) -> Result<(), Memory>
+fn put_bound(alloc: Global, bounds: &mut Bounds, set: &[u8], bound: Bound) -> Result<(), Memory>
     ensures { OnOk result (BoundDone bounds.old bounds.new set.now bound) }
 {
     let used = is_used(&bounds.set, set);

@@ -1,19 +1,25 @@
 // Lines of COLUMNS.
 
-ghost use Rattle.std.specs.Prelude.{◌≡◌, ◌+◌, ◌<◌, ◌^◌, true, false, None};
+ghost use Rattle.std.specs.Prelude.{◌≡◌, ◌+◌, ◌<◌, ◌≤◌, ◌^◌, List, true, false, length, IfOk};
+ghost use Rattle.std.specs.List.{list_all};
 ghost use Rattle.program_law.specs.Places.{place_of};
+ghost use Rattle.program_law.specs.Program.{IsName};
 ghost use Rattle.mps_tokens.specs.declared.words.Section.TheVariants as sections;
-ghost use Rattle.mps_grammar.specs.Fields.{is_marker};
+ghost use Rattle.mps_tokens.specs.Numbers.{number_of};
+ghost use Rattle.mps_grammar.specs.Fields.{Pair, is_marker};
 ghost use Rattle.mps_grammar.specs.Told.{names_of};
 ghost use Rattle.mps_grammar.specs.Faults.{is_wrong_stretch};
+ghost use Rattle.mps_lines.specs.Names.{is_word};
+ghost use Rattle.mps_lines.specs.Resolved.{AreItems};
+ghost use Rattle.mps_lines.specs.Placed.{AreWithin};
 ghost use Rattle.mps_lines.specs.Notes.{IsSound};
-ghost use Rattle.mps_lines.specs.Steps.{TakesData, PlacesColumn};
+ghost use Rattle.mps_lines.specs.Steps.{TakesData, TakesItems, PlacesColumn};
 
 use crate::entries::{gives_twice, put_items, row_places};
 use crate::fields::{entries_of, is_marker_line, is_stretch_begin, is_stretch_end};
 use crate::named::Named;
 use crate::notes::Notes;
-use crate::pairs::{has_long, is_long, resolve};
+use crate::pairs::{Items, has_long, is_long, resolve};
 use crate::stop::LineStop;
 use mps_grammar::FaultKind;
 use mps_tokens::Parts;
@@ -52,16 +58,22 @@ fn take_marker(notes: &mut Notes, fields: &Parts<'_>) -> Result<(), LineStop>
     Ok(())
 }
 
-/// Puts a new column last, and answers its place.
-fn add_column(
+/// The place of a column, which is put last where it wasn't found.
+fn place_column(
     alloc: Global,
     columns: &mut Named<bool>,
     name: &[u8],
     marked: bool,
+    found: Option<usize>,
 ) -> Result<usize, LineStop>
-    requires { place_of (names_of columns.old) name.now ≡ None }
-    ensures { PlacesColumn columns.old columns.new name.now marked result }
+    requires found { found ≡ place_of (names_of columns.old) name.now }
+    requires few { length columns.old ≤ 128 }
+    ensures column { PlacesColumn columns.old columns.new name.now marked result }
+    ensures within { IfOk result (λ j. j < 128) }
 {
+    if let Some(place) = found {
+        return Ok(place);
+    }
     let place = columns.len();
     if place >= MOST_COLUMNS {
         return Err(LineStop::Fault(FaultKind::TooMany));
@@ -71,10 +83,30 @@ fn add_column(
     Ok(place)
 }
 
+/// The items of a line of entries for a column with this name.
+fn take_items(alloc: Global, notes: &mut Notes, name: &[u8], items: &Items) -> Result<(), LineStop>
+    requires sound { IsSound notes.old }
+    requires few { notes.old.lines + 1 < 2 ^ 32 }
+    requires name { IsName name.now }
+    requires items { AreWithin (length notes.old.rows) items.now }
+    ensures { (pairs : List Pair) → AreItems (names_of notes.old.rows) number_of pairs items.now.first items.now.second →
+        TakesItems notes.old name.now pairs notes.new result }
+{
+    let places = row_places(&notes.rows, items);
+    let found = notes.columns.find(name);
+    if gives_twice(&notes.entries, found, &places) {
+        return Err(LineStop::Fault(FaultKind::EntryTwice));
+    }
+    let column = place_column(alloc, &mut notes.columns, name, notes.begun, found)?;
+    put_items(&mut notes.entries, notes.lines + 1, column, items, &places)?;
+    Ok(())
+}
+
 /// A line of entries.
 fn take_entries(alloc: Global, notes: &mut Notes, fields: &Parts<'_>) -> Result<(), LineStop>
     requires sound { IsSound notes.old }
     requires few { notes.old.lines + 1 < 2 ^ 32 }
+    requires words { list_all is_word fields.now ≡ true }
     requires no_marker { is_marker fields.now ≡ false }
     ensures { TakesData notes.old sections.Columns fields.now notes.new result }
 {
@@ -84,18 +116,10 @@ fn take_entries(alloc: Global, notes: &mut Notes, fields: &Parts<'_>) -> Result<
     if has_long(&entries) {
         return Err(LineStop::Fault(FaultKind::NameLong));
     }
-    let items = resolve(notes.rows.names(), false, &entries.pairs)?;
-    let places = row_places(&notes.rows, &items);
-    let column = notes.columns.find(entries.head);
-    if gives_twice(&notes.entries, column, &places) {
-        return Err(LineStop::Fault(FaultKind::EntryTwice));
+    match resolve(notes.rows.names(), false, &entries.pairs) {
+        Ok(items) => take_items(alloc, notes, entries.head, &items),
+        Err(kind) => Err(LineStop::Fault(kind)),
     }
-    let column = match column {
-        Some(column) => column,
-        None => add_column(alloc, &mut notes.columns, entries.head, notes.begun)?,
-    };
-    put_items(&mut notes.entries, notes.lines + 1, column, &items, &places)?;
-    Ok(())
 }
 
 /// A line of COLUMNS.
@@ -106,6 +130,7 @@ pub(crate) fn take_columns(
 ) -> Result<(), LineStop>
     requires sound { IsSound notes.old }
     requires few { notes.old.lines + 1 < 2 ^ 32 }
+    requires words { list_all is_word fields.now ≡ true }
     ensures { TakesData notes.old sections.Columns fields.now notes.new result }
 {
     if is_marker_line(fields) {

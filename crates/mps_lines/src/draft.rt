@@ -1,7 +1,8 @@
 // What the lines of a text tell, for those who make a program of it.
 
-ghost use Rattle.std.specs.Prelude.{◌≡◌, ◌<◌, ◌≤◌, Some, length, slice_get};
+ghost use Rattle.std.specs.Prelude.{◌≡◌, ◌≢◌, ◌<◌, ◌≤◌, Some, length, slice_get};
 ghost use Rattle.program_law.specs.Places.{place_of};
+ghost use Rattle.program_law.specs.Program.{IsName, marker};
 ghost use Rattle.mps_grammar.specs.Told.{names_of, used_names};
 ghost use Rattle.mps_grammar.specs.Programs.{gives_pairs_once};
 ghost use Rattle.mps_lines.specs.Named.{things_of};
@@ -54,7 +55,9 @@ impl Draft {
     /// The name of a row.
     pub fn row_name(&self, row: usize) -> &[u8]
         requires { row < length self.now.rows }
-        ensures { slice_get (names_of self.now.rows) row ≡ Some result.now }
+        ensures found { slice_get (names_of self.now.rows) row ≡ Some result.now }
+        ensures name { IsName result.now }
+        ensures marker { result.now ≢ marker }
     {
         self.notes.rows.name(row)
     }
@@ -87,7 +90,8 @@ impl Draft {
     /// The name of a column.
     pub fn column_name(&self, column: usize) -> &[u8]
         requires { column < length self.now.columns }
-        ensures { slice_get (names_of self.now.columns) column ≡ Some result.now }
+        ensures found { slice_get (names_of self.now.columns) column ≡ Some result.now }
+        ensures name { IsName result.now }
     {
         self.notes.columns.name(column)
     }
@@ -144,6 +148,9 @@ impl Draft {
     pub fn gives_pairs_once(&self) -> bool
         ensures { result ≡ gives_pairs_once self.now }
     {
-        self.notes.sections.iter().any(|section| gives_once(*section))
+        self.notes
+            .sections
+            .iter()
+            .any(|section| gives_once(*section))
     }
 }

@@ -1,8 +1,8 @@
 // The forms of data lines.
 
-ghost use Rattle.std.specs.Prelude.{◌≡◌, ◌+◌, ◌<◌, ◌∷◌, [], true, false, length, slice_get, Some, None, MatchOption};
+ghost use Rattle.std.specs.Prelude.{◌≡◌, ◌∷◌, [], true, false, Some, None, MatchOption};
 ghost use Rattle.mps_grammar.specs.Fields.{row_name_in, is_marker, begins_stretch, ends_stretch, entries_in, sides_in, bounded_in};
-ghost use Rattle.mps_lines.specs.Views.{viewed_entries, viewed_bounded};
+ghost use Rattle.mps_lines.specs.Views.{viewed_pair, viewed_entries, viewed_bounded};
 
 use mps_tokens::Parts;
 
@@ -80,7 +80,7 @@ fn with_one<'a>(head: &'a [u8], name: &'a [u8], number: &'a [u8]) -> Entries<'a>
 
 /// A head, and two pairs from a field on.
 fn with_two<'a>(head: &'a [u8], first: Pair<'a>, second: Pair<'a>) -> Entries<'a>
-    ensures { viewed_entries result ≡ (head.now, (first.name.now, first.number.now) ∷ (second.name.now, second.number.now) ∷ []) }
+    ensures { viewed_entries result ≡ (head.now, viewed_pair first.entry ∷ viewed_pair second.entry ∷ []) }
 {
     Entries {
         head,
@@ -91,16 +91,10 @@ fn with_two<'a>(head: &'a [u8], first: Pair<'a>, second: Pair<'a>) -> Entries<'a
     }
 }
 
-/// The pair of a field and the next one.
-fn pair_at<'a>(fields: &Parts<'a>, k: usize) -> Pair<'a>
-    requires { k + 1 < length fields.now }
-    ensures name { slice_get fields.now k ≡ Some result.name.now }
-    ensures number { slice_get fields.now (k + 1) ≡ Some result.number.now }
+fn pair_of<'a>(name: &'a [u8], number: &'a [u8]) -> Pair<'a>
+    ensures { viewed_pair result ≡ (name.now, number.now) }
 {
-    Pair {
-        name: fields.get(k),
-        number: fields.get(k + 1),
-    }
+    Pair { name, number }
 }
 
 /// A column and its pairs, where there are three or five fields.
@@ -109,7 +103,11 @@ pub(crate) fn entries_of<'a>(fields: &Parts<'a>) -> Option<Entries<'a>>
 {
     match fields.len() {
         3 => Some(with_one(fields.get(0), fields.get(1), fields.get(2))),
-        5 => Some(with_two(fields.get(0), pair_at(fields, 1), pair_at(fields, 3))),
+        5 => Some(with_two(
+            fields.get(0),
+            pair_of(fields.get(1), fields.get(2)),
+            pair_of(fields.get(3), fields.get(4)),
+        )),
         _ => None,
     }
 }
@@ -121,8 +119,16 @@ pub(crate) fn sides_of<'a>(fields: &Parts<'a>) -> Option<Entries<'a>>
     match fields.len() {
         2 => Some(with_one(&[], fields.get(0), fields.get(1))),
         3 => Some(with_one(fields.get(0), fields.get(1), fields.get(2))),
-        4 => Some(with_two(&[], pair_at(fields, 0), pair_at(fields, 2))),
-        5 => Some(with_two(fields.get(0), pair_at(fields, 1), pair_at(fields, 3))),
+        4 => Some(with_two(
+            &[],
+            pair_of(fields.get(0), fields.get(1)),
+            pair_of(fields.get(2), fields.get(3)),
+        )),
+        5 => Some(with_two(
+            fields.get(0),
+            pair_of(fields.get(1), fields.get(2)),
+            pair_of(fields.get(3), fields.get(4)),
+        )),
         _ => None,
     }
 }

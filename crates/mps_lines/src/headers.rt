@@ -1,6 +1,7 @@
 // Headers.
 
 ghost use Rattle.std.specs.Prelude.{◌≡◌};
+ghost use Rattle.std.specs.List.{list_any};
 ghost use Rattle.mps_grammar.specs.Told.{is_rows, is_columns, is_rhs, is_ranges, is_bounds, is_quadratic};
 ghost use Rattle.mps_grammar.specs.Faults.{may_begin, is_sense};
 ghost use Rattle.mps_lines.specs.Notes.{IsSound};
@@ -62,23 +63,57 @@ fn is_end(section: Section) -> bool
     matches!(section, Section::EndData)
 }
 
+fn has_rows(begun: &[Section]) -> bool
+    ensures { result ≡ list_any is_rows begun.now }
+{
+    begun.iter().any(|section| is_rows(*section))
+}
+
+fn has_columns(begun: &[Section]) -> bool
+    ensures { result ≡ list_any is_columns begun.now }
+{
+    begun.iter().any(|section| is_columns(*section))
+}
+
+fn has_rhs(begun: &[Section]) -> bool
+    ensures { result ≡ list_any is_rhs begun.now }
+{
+    begun.iter().any(|section| is_rhs(*section))
+}
+
+fn has_ranges(begun: &[Section]) -> bool
+    ensures { result ≡ list_any is_ranges begun.now }
+{
+    begun.iter().any(|section| is_ranges(*section))
+}
+
+fn has_bounds(begun: &[Section]) -> bool
+    ensures { result ≡ list_any is_bounds begun.now }
+{
+    begun.iter().any(|section| is_bounds(*section))
+}
+
+fn has_quadratic(begun: &[Section]) -> bool
+    ensures { result ≡ list_any is_quadratic begun.now }
+{
+    begun.iter().any(|section| is_quadratic(*section))
+}
+
 /// Whether a section may begin after these.
 fn may_begin(begun: &[Section], section: Section) -> bool
     ensures { result ≡ may_begin begun.now section }
 {
-    let rows = begun.iter().any(|s| is_rows(*s));
-    let columns = begun.iter().any(|s| is_columns(*s));
     match section {
         Section::Name => begun.is_empty(),
-        Section::Rows => !rows,
-        Section::Columns => rows && !columns,
-        Section::Rhs => columns && !begun.iter().any(|s| is_rhs(*s)),
-        Section::Ranges => columns && !begun.iter().any(|s| is_ranges(*s)),
-        Section::Bounds => columns && !begun.iter().any(|s| is_bounds(*s)),
+        Section::Rows => !has_rows(begun),
+        Section::Columns => has_rows(begun) && !has_columns(begun),
+        Section::Rhs => has_columns(begun) && !has_rhs(begun),
+        Section::Ranges => has_columns(begun) && !has_ranges(begun),
+        Section::Bounds => has_columns(begun) && !has_bounds(begun),
         Section::QuadObj | Section::QMatrix | Section::DMatrix => {
-            columns && !begun.iter().any(|s| is_quadratic(*s))
+            has_columns(begun) && !has_quadratic(begun)
         }
-        Section::EndData => columns,
+        Section::EndData => has_columns(begun),
         Section::ObjSense => false,
     }
 }

@@ -109,9 +109,10 @@ impl Numbers {
         requires place { IfSome entry.place (λ k. k < 129) }
         ensures { OnOk result (self.new ≡ self.old ++ entry ∷ []) }
     {
+        let Entry { column, place, .. } = entry;
         self.entries.push(entry)?;
-        if let Some(place) = entry.place {
-            self.marks.set(HEIGHT * entry.column + place, true);
+        if let Some(place) = place {
+            self.marks.set(HEIGHT * column + place, true);
         }
         Ok(())
     }

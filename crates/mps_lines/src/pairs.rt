@@ -65,7 +65,9 @@ fn both(
 {
     match (first, second) {
         (Ok(first), Ok(second)) => Ok((first, second)),
-        (Err(NumberFault::NotNumber), _) | (_, Err(NumberFault::NotNumber)) => Err(NumberFault::NotNumber),
+        (Err(NumberFault::NotNumber), _) | (_, Err(NumberFault::NotNumber)) => Err(
+            NumberFault::NotNumber,
+        ),
         _ => Err(NumberFault::Past),
     }
 }
@@ -99,7 +101,10 @@ fn resolve_two<T: Copy + Drop>(
     let Some(second_place) = names.find(second.name) else {
         return Err(FaultKind::NameUnknown);
     };
-    match both(number_of(twice, first.number), number_of(twice, second.number)) {
+    match both(
+        number_of(twice, first.number),
+        number_of(twice, second.number),
+    ) {
         Ok((first_value, second_value)) => Ok(Items {
             first: Item {
                 place: first_place,

@@ -1,13 +1,15 @@
 // Lines of QUADOBJ, QMATRIX and DMATRIX.
 
-ghost use Rattle.std.specs.Prelude.{◌≡◌, ◌<◌, ◌+◌, ◌^◌, true, length, IfSome};
-ghost use Rattle.mps_tokens.specs.declared.words.Section.{Section};
-ghost use Rattle.mps_grammar.specs.Told.{is_quadratic};
+ghost use Rattle.std.specs.Prelude.{◌≡◌, ◌<◌, ◌+◌, ◌^◌, ℕ, List, Some, true, length};
+ghost use Rattle.program_law.specs.Places.{place_of};
+ghost use Rattle.mps_grammar.specs.Fields.{Pair};
+ghost use Rattle.mps_grammar.specs.Told.{names_of, quadratic_number, is_quadratic};
 ghost use Rattle.mps_grammar.specs.Programs.{is_quadobj};
 ghost use Rattle.mps_lines.specs.Entries.{pair_given, pair_twice};
+ghost use Rattle.mps_lines.specs.Resolved.{AreItems};
 ghost use Rattle.mps_lines.specs.Placed.{AreWithin, column_places_of};
 ghost use Rattle.mps_lines.specs.Notes.{IsSound};
-ghost use Rattle.mps_lines.specs.Steps.{TakesData, is_half};
+ghost use Rattle.mps_lines.specs.Steps.{TakesData, TakesPairItems, is_half};
 
 use crate::entries::{Places, put_items};
 use crate::fields::entries_of;
@@ -67,6 +69,29 @@ fn gives_pair_twice(numbers: &Numbers, once: bool, column: usize, items: &Items)
     is_pair_given(numbers, once, column, first) || again
 }
 
+/// The items of a line of a quadratic section, for a column.
+fn take_items(
+    notes: &mut Notes,
+    section: Section,
+    column: usize,
+    items: &Items,
+) -> Result<(), LineStop>
+    requires sound { IsSound notes.old }
+    requires few { notes.old.lines + 1 < 2 ^ 32 }
+    requires column { column < length notes.old.columns }
+    requires items { AreWithin (length notes.old.columns) items.now }
+    ensures { (name : List ℕ) (pairs : List Pair) → place_of (names_of notes.old.columns) name ≡ Some column →
+        AreItems (names_of notes.old.columns) (quadratic_number section) pairs items.now.first items.now.second →
+        TakesPairItems notes.old section name pairs notes.new result }
+{
+    if gives_pair_twice(&notes.pairs, gives_once(section), column, items) {
+        return Err(LineStop::Fault(FaultKind::EntryTwice));
+    }
+    let places = column_places(items);
+    put_items(&mut notes.pairs, notes.lines + 1, column, items, &places)?;
+    Ok(())
+}
+
 /// A line of a quadratic section.
 pub(crate) fn take_pairs(
     notes: &mut Notes,
@@ -87,11 +112,8 @@ pub(crate) fn take_pairs(
     let Some(column) = notes.columns.find(entries.head) else {
         return Err(LineStop::Fault(FaultKind::NameUnknown));
     };
-    let items = resolve(&notes.columns, gives_half(section), &entries.pairs)?;
-    if gives_pair_twice(&notes.pairs, gives_once(section), column, &items) {
-        return Err(LineStop::Fault(FaultKind::EntryTwice));
+    match resolve(&notes.columns, gives_half(section), &entries.pairs) {
+        Ok(items) => take_items(notes, section, column, &items),
+        Err(kind) => Err(LineStop::Fault(kind)),
     }
-    let places = column_places(&items);
-    put_items(&mut notes.pairs, notes.lines + 1, column, &items, &places)?;
-    Ok(())
 }

@@ -36,9 +36,10 @@ fn notes_of(alloc: Global, text: &[u8]) -> Result<(Notes, Place), ReadStop>
     while at < text.len() {
         let whole = whole_line(text, at);
         let bytes = &text[whole.line.begin..whole.line.end];
+        let number = notes.lines + 1;
         let ended = match take_line(alloc, &mut notes, bytes, is_beyond(at, whole.end)) {
             Ok(ended) => ended,
-            Err(stop) => return Err(stop_at(notes.lines + 1, stop)),
+            Err(stop) => return Err(stop_at(number, stop)),
         };
         at = whole.line.next;
         if ended {

@@ -4,8 +4,8 @@ ghost use Rattle.std.specs.Prelude.{◌≡◌, ◌<◌, true, length};
 ghost use Rattle.std.specs.List.{list_all};
 ghost use Rattle.std.specs.Str.{bytes_eq};
 ghost use Rattle.program_law.specs.Program.{marker};
-ghost use Rattle.mps_tokens.specs.FieldsOf.{is_filled};
 ghost use Rattle.mps_tokens.specs.declared.words.Section.TheVariants as sections;
+ghost use Rattle.mps_lines.specs.Names.{is_word};
 ghost use Rattle.mps_lines.specs.Notes.{IsSound};
 ghost use Rattle.mps_lines.specs.Steps.{TakesData, TakesNamed};
 
@@ -25,14 +25,9 @@ fn is_marker_name(name: &[u8]) -> bool
 }
 
 /// A row of this kind.
-fn take_named(
-    alloc: Global,
-    notes: &mut Notes,
-    kind: RowKind,
-    name: &[u8],
-) -> Result<(), LineStop>
+fn take_named(alloc: Global, notes: &mut Notes, kind: RowKind, name: &[u8]) -> Result<(), LineStop>
     requires sound { IsSound notes.old }
-    requires filled { is_filled name.now ≡ true }
+    requires word { is_word name.now ≡ true }
     ensures { TakesNamed notes.old kind name.now notes.new result }
 {
     if is_marker_name(name) {
@@ -59,7 +54,7 @@ pub(crate) fn take_rows(
 ) -> Result<(), LineStop>
     requires sound { IsSound notes.old }
     requires some { 0 < length fields.now }
-    requires filled { list_all is_filled fields.now ≡ true }
+    requires words { list_all is_word fields.now ≡ true }
     ensures { TakesData notes.old sections.Rows fields.now notes.new result }
 {
     let Some(kind) = row_kind_of(fields.get(0)) else {

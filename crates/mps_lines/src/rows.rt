@@ -1,11 +1,12 @@
 // The rows, with what each of them is.
 
-ghost use Rattle.std.specs.Prelude.{◌≡◌, ◌<◌, ◌≤◌, ◌++◌, ◌∷◌, [], ◌&&◌, nat_le, is_some, is_none, List, ℕ, None, Some, true, length, slice_get, IfSome, OnOk};
-ghost use Rattle.mps_tokens.specs.FieldsOf.{is_filled};
+ghost use Rattle.std.specs.Prelude.{◌≡◌, ◌≢◌, ◌<◌, ◌≤◌, ◌++◌, ◌∷◌, [], ◌&&◌, nat_le, is_some, None, Some, true, length, slice_get, IfSome, OnOk};
 ghost use Rattle.program_law.specs.Places.{place_of};
+ghost use Rattle.program_law.specs.Program.{IsName, marker};
 ghost use Rattle.mps_grammar.specs.Told.{names_of, binds, program_rows, objective_in, used_names};
 ghost use Rattle.mps_lines.specs.Named.{things_of};
-ghost use Rattle.mps_lines.specs.Names.{name_at};
+ghost use Rattle.mps_lines.specs.Names.{Differ, AreNames, name_at};
+ghost use Rattle.mps_lines.specs.Entries.{place_after};
 
 use crate::named::Named;
 use frac_core::Memory;
@@ -56,6 +57,20 @@ pub(crate) fn is_bound(kind: RowKind) -> bool
     }
 }
 
+/// The place of a row that comes after so many rows of the program, and after an objective or before it.
+fn next_place(binds: bool, bound: usize, objective: bool) -> Option<usize>
+    requires { bound ≤ 128 }
+    ensures { result ≡ place_after binds bound objective }
+{
+    if binds {
+        Some(bound + 1)
+    } else if objective {
+        None
+    } else {
+        Some(0)
+    }
+}
+
 impl Rows {
     pub(crate) fn new(alloc: Global) -> Self
         ensures { result ≡ [] }
@@ -76,7 +91,9 @@ impl Rows {
 
     /// The rows by their names.
     pub(crate) fn names(&self) -> &Named<RowUse>
-        ensures { names_of result.now ≡ names_of self.now }
+        ensures names { names_of result.now ≡ names_of self.now }
+        ensures differ { Differ (names_of self.now) }
+        ensures good { AreNames (names_of self.now) }
     {
         &self.named
     }
@@ -84,7 +101,9 @@ impl Rows {
     /// The name of a row.
     pub(crate) fn name(&self, row: usize) -> &[u8]
         requires { row < length self.now }
-        ensures { slice_get (names_of self.now) row ≡ Some result.now }
+        ensures found { slice_get (names_of self.now) row ≡ Some result.now }
+        ensures name { IsName result.now }
+        ensures marker { result.now ≢ marker }
     {
         self.named.name(row)
     }
@@ -123,18 +142,13 @@ impl Rows {
     /// Puts a row last, under a new name.
     pub(crate) fn push(&mut self, alloc: Global, name: &[u8], kind: RowKind) -> Result<(), Memory>
         requires absent { place_of (names_of self.old) name.now ≡ None }
-        requires filled { is_filled name.now ≡ true }
+        requires name { IsName name.now }
+        requires marker { name.now ≢ marker }
         requires room { binds kind ≡ true → length (program_rows self.old) < 128 }
         ensures { OnOk result (self.new ≡ self.old ++ (name.now, kind) ∷ []) }
     {
         let binds = is_bound(kind);
-        let place = if binds {
-            Some(self.bound + 1)
-        } else if self.objective {
-            None
-        } else {
-            Some(0)
-        };
+        let place = next_place(binds, self.bound, self.objective);
         let row = RowUse { kind, place };
         let name = Vec::from_slice(alloc, name)?;
         self.named.push(name, row)?;

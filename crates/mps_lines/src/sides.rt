@@ -1,19 +1,21 @@
 // Lines of RHS and RANGES.
 
-ghost use Rattle.std.specs.Prelude.{◌≡◌, ◌<◌, [], None, Some, List, ℕ, length, IfOk, OnOk};
-ghost use Rattle.program_law.specs.Places.{place_of};
-ghost use Rattle.mps_grammar.specs.Fields.{sides_in};
+ghost use Rattle.std.specs.Prelude.{◌≡◌, [], None, Some, List, length, IfOk, OnOk};
+ghost use Rattle.mps_tokens.specs.Numbers.{number_of};
+ghost use Rattle.mps_grammar.specs.Fields.{Pair, sides_in};
 ghost use Rattle.mps_grammar.specs.Told.{Told, names_of, used_names, is_used, first_named};
 ghost use Rattle.mps_grammar.specs.Faults.{side_tests};
 ghost use Rattle.mps_lines.specs.Names.{Differ};
+ghost use Rattle.mps_lines.specs.Resolved.{AreItems};
+ghost use Rattle.mps_lines.specs.Placed.{AreWithin};
 ghost use Rattle.mps_lines.specs.Told.{tellings_of, AreEntries, text_in};
 ghost use Rattle.mps_lines.specs.Notes.{no_column};
-ghost use Rattle.mps_lines.specs.Steps.{Judged, SidesDone};
+ghost use Rattle.mps_lines.specs.Steps.{Judged, SidesDone, TakesSideItems};
 
 use crate::entries::{gives_twice, put_items, row_places};
 use crate::fields::sides_of;
 use crate::numbers::Numbers;
-use crate::pairs::{has_long, resolve};
+use crate::pairs::{Items, has_long, resolve};
 use crate::rows::Rows;
 use crate::stop::LineStop;
 use frac_core::Memory;
@@ -49,15 +51,38 @@ pub(crate) fn is_used(set: &Option<Vec<u8>>, name: &[u8]) -> bool
 }
 
 /// Keeps the name of the used set, where this is the first line.
-pub(crate) fn name_set(
-    alloc: Global,
-    set: &mut Option<Vec<u8>>,
-    name: &[u8],
-) -> Result<(), Memory>
+pub(crate) fn name_set(alloc: Global, set: &mut Option<Vec<u8>>, name: &[u8]) -> Result<(), Memory>
     ensures { OnOk result (text_in set.new ≡ first_named (text_in set.old) (Some name.now)) }
 {
     if set.is_none() {
         *set = Some(Vec::from_slice(alloc, name)?);
+    }
+    Ok(())
+}
+
+/// The items of a line of this set.
+fn take_items(
+    alloc: Global,
+    rows: &Rows,
+    sides: &mut Sides,
+    line: u32,
+    set: &[u8],
+    items: &Items,
+) -> Result<(), LineStop>
+    requires rows { Differ (names_of rows.now) }
+    requires entries { AreEntries no_column (names_of rows.now) (used_names rows.now) sides.old.numbers }
+    requires items { AreWithin (length rows.now) items.now }
+    ensures { (pairs : List Pair) → AreItems (names_of rows.now) number_of pairs items.now.first items.now.second →
+        TakesSideItems rows.now sides.old line set.now pairs sides.new result }
+{
+    let places = row_places(rows, items);
+    let used = is_used(&sides.set, set);
+    if used && gives_twice(&sides.numbers, Some(0), &places) {
+        return Err(LineStop::Fault(FaultKind::EntryTwice));
+    }
+    name_set(alloc, &mut sides.set, set)?;
+    if used {
+        put_items(&mut sides.numbers, line, 0, items, &places)?;
     }
     Ok(())
 }
@@ -74,7 +99,7 @@ pub(crate) fn take_sides(
     requires entries { AreEntries no_column (names_of rows.now) (used_names rows.now) sides.old.numbers }
     ensures { (told : Told) → told.rows ≡ rows.now →
         Judged (side_tests told (text_in sides.old.set) (tellings_of no_column (names_of rows.now) sides.old.numbers) (sides_in fields.now))
-            (SidesDone rows.now sides.old sides.new line (sides_in fields.now)) result }
+        (λ done. SidesDone rows.now sides.old sides.new line (sides_in fields.now)) result }
 {
     let Some(entries) = sides_of(fields) else {
         return Err(LineStop::Fault(FaultKind::Fields));
@@ -82,15 +107,8 @@ pub(crate) fn take_sides(
     if has_long(&entries) {
         return Err(LineStop::Fault(FaultKind::NameLong));
     }
-    let items = resolve(rows.names(), false, &entries.pairs)?;
-    let places = row_places(rows, &items);
-    let used = is_used(&sides.set, entries.head);
-    if used && gives_twice(&sides.numbers, Some(0), &places) {
-        return Err(LineStop::Fault(FaultKind::EntryTwice));
+    match resolve(rows.names(), false, &entries.pairs) {
+        Ok(items) => take_items(alloc, rows, sides, line, entries.head, &items),
+        Err(kind) => Err(LineStop::Fault(kind)),
     }
-    name_set(alloc, &mut sides.set, entries.head)?;
-    if used {
-        put_items(&mut sides.numbers, line, 0, &items, &places)?;
-    }
-    Ok(())
 }

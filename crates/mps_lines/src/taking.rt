@@ -3,8 +3,9 @@
 ghost use Rattle.std.specs.Prelude.{◌≡◌, ◌<◌, ◌+◌, ◌^◌, true, take, length, List, ℕ};
 ghost use Rattle.std.specs.List.{list_all};
 ghost use Rattle.mps_tokens.specs.Lines.{without_return};
-ghost use Rattle.mps_tokens.specs.FieldsOf.{is_filled, fields_of};
+ghost use Rattle.mps_tokens.specs.FieldsOf.{fields_of};
 ghost use Rattle.mps_grammar.specs.Faults.{is_beyond};
+ghost use Rattle.mps_lines.specs.Names.{is_word};
 ghost use Rattle.mps_lines.specs.Notes.{IsSound};
 ghost use Rattle.mps_lines.specs.Steps.{sides_section, TakesData, TakesIndented, TakesContent, TakesShown, TakesLine};
 
@@ -50,7 +51,7 @@ fn take_data(
     requires sound { IsSound notes.old }
     requires few { notes.old.lines + 1 < 2 ^ 32 }
     requires some { 0 < length fields.now }
-    requires filled { list_all is_filled fields.now ≡ true }
+    requires words { list_all is_word fields.now ≡ true }
     ensures { TakesData notes.old section fields.now notes.new result }
 {
     match section {
@@ -69,19 +70,15 @@ fn take_data(
 }
 
 /// A data line, which stands in the section that was begun last.
-fn take_indented(
-    alloc: Global,
-    notes: &mut Notes,
-    fields: &Parts<'_>,
-) -> Result<(), LineStop>
+fn take_indented(alloc: Global, notes: &mut Notes, fields: &Parts<'_>) -> Result<(), LineStop>
     requires sound { IsSound notes.old }
     requires few { notes.old.lines + 1 < 2 ^ 32 }
     requires some { 0 < length fields.now }
-    requires filled { list_all is_filled fields.now ≡ true }
+    requires words { list_all is_word fields.now ≡ true }
     ensures { TakesIndented notes.old fields.now notes.new result }
 {
-    match notes.sections.first() {
-        Some(section) => take_data(alloc, notes, *section, fields),
+    match notes.sections.first().copied() {
+        Some(section) => take_data(alloc, notes, section, fields),
         None => Err(LineStop::Fault(FaultKind::SectionOrder)),
     }
 }
@@ -97,6 +94,7 @@ fn take_content(
     requires few { notes.old.lines + 1 < 2 ^ 32 }
     requires fields { fields.now ≡ take 6 (fields_of line.now) }
     requires some { 0 < length fields.now }
+    requires words { list_all is_word fields.now ≡ true }
     ensures { TakesContent notes.old line.now notes.new result }
 {
     if is_indented(line) {

@@ -1,0 +1,40 @@
+use Rattle.std.proofs.Common.{◌≡◌, Ok, Err, subst, sym, ap, arith}
+use Rattle.mps_lines.specs.declared.stop.LineStop.{LineStop}
+use Rattle.mps_lines.specs.declared.notes.Notes.{Notes}
+use Rattle.mps_lines.specs.Reading.{raw_at}
+use Rattle.mps_lines.specs.Steps.{TakesLine}
+use Rattle.mps_lines.proofs.Histories.{fails, line_fails, now, now_lines, goes, stops}
+use Rattle.mps_lines.proofs.reading.notes_of.Goals as goal
+
+pub loop-at-preserved : goal.loop-at-preserved
+loop-at-preserved c =
+    let w = c.whole_line-whole.ensures in
+    let raw = raw_at c.args.text.now c.loop-at.at in
+    let t = c.in-Ok-take_line.ensures c.loop-at.at raw w.bytes (c.is_beyond.ensures raw w.end) in
+    goes c.args.text.now c.loop-at.at c.loop-at.notes c.loop-at.invariant c.whole_line-whole.result c.loop-at-test.true w c.take_line.new.notes c.in-Ok-take_line.ended t c.if-ended.false
+
+pub returns-in-Err : goal.returns-in-Err
+returns-in-Err c =
+    let w = c.whole_line-whole.ensures in
+    let raw = raw_at c.args.text.now c.loop-at.at in
+    let t = c.in-Err.ensures c.loop-at.at raw w.bytes (c.is_beyond.ensures raw w.end) in
+    let P : LineStop → Type 0 = λ stop. TakesLine c.loop-at.notes c.loop-at.at raw c.take_line.new.notes (Err stop) in
+    rw c.stop_at.ensures (fails c.args.text.now _ c.in-Err.stop (λ kind e. line_fails c.args.text.now c.loop-at.at c.loop-at.notes c.loop-at.invariant c.whole_line-whole.result c.loop-at-test.true w c.take_line.new.notes kind (subst P e t)))
+
+pub overflow_add-place : goal.overflow_add-place
+overflow_add-place c =
+    let w = c.whole_line-whole.ensures in
+    let raw = raw_at c.args.text.now c.loop-at.at in
+    let t = c.in-Ok-take_line.ensures c.loop-at.at raw w.bytes (c.is_beyond.ensures raw w.end) in
+    let count = now_lines c.args.text.now c.loop-at.at c.loop-at.notes c.loop-at.invariant c.whole_line-whole.result c.loop-at-test.true w c.take_line.new.notes c.in-Ok-take_line.ended t in
+    omega (arith, count, c.loop-at.invariant.few, c.loop-at-test.true, c.requires)
+
+pub returns-then-ended : goal.returns-then-ended
+returns-then-ended c =
+    let w = c.whole_line-whole.ensures in
+    let raw = raw_at c.args.text.now c.loop-at.at in
+    let t = c.in-Ok-take_line.ensures c.loop-at.at raw w.bytes (c.is_beyond.ensures raw w.end) in (
+      _,
+      stops c.args.text.now c.loop-at.at c.loop-at.notes c.loop-at.invariant c.whole_line-whole.result c.loop-at-test.true w c.take_line.new.notes c.in-Ok-take_line.ended t c.if-ended.true,
+      now c.args.text.now c.loop-at.at c.loop-at.notes c.loop-at.invariant c.whole_line-whole.result c.loop-at-test.true w c.take_line.new.notes c.in-Ok-take_line.ended t,
+    )
