@@ -1,18 +1,17 @@
 -- Rows and columns that are added one after the other.
-use Rattle.std.proofs.Common.{◌≡◌, ℕ, zero, suc, ◌+◌, ◌<◌, ◌≤◌, Bool, true, false, List, [], ◌∷◌, ◌++◌, map, take, length, get_or, Option, Some, None, refl, sym, ap, subst, ◌∙◌, arith, if◌then◌else◌, ◌&&◌, IsSome, true≢false, Result, Ok, Err, OnOk}
+use Rattle.std.proofs.Common.{◌≡◌, ℕ, zero, suc, ◌+◌, ◌<◌, Bool, true, false, List, [], ◌∷◌, ◌++◌, map, take, length, get_or, Option, Some, None, refl, sym, ap, subst, ◌∙◌, arith, if◌then◌else◌, ◌&&◌, IsSome, true≢false, Result, Ok, Err, OnOk}
 use Rattle.std.specs.Prelude.{slice_get, unwrap_or}
 use Rattle.std.specs.Str.{bytes_eq}
 use Rattle.std.proofs.lemmas.List.{take_more, take_all, get_or-map, append-nil}
 use Rattle.rational.specs.Rational.{ℚ, neg_ℚ}
 use Rattle.program_law.specs.declared.Row.{Row}
-use Rattle.program_law.specs.declared.Column.{Column}
 use Rattle.program_law.specs.Places.{place_of}
 use Rattle.program_law.specs.Program.{Program, row_names, column_names}
 use Rattle.program_law.specs.Changes.{with_row, with_column, with_constant}
 use Rattle.mps_tokens.specs.declared.words.RowKind.{RowKind}
 use Rattle.mps_tokens.specs.Cases.{named}
-use Rattle.mps_grammar.specs.Told.{Told, Telling, is_at, names_of, binds, program_rows, objective_in, used_names}
-use Rattle.mps_grammar.specs.Programs.{or_other, value_at, value_told, sides_of, row_of, column_of, bounded, bounds_for, objective_of, makes_past, is_range_past, first_line}
+use Rattle.mps_grammar.specs.Told.{Told, Telling, names_of, binds, program_rows, objective_in}
+use Rattle.mps_grammar.specs.Programs.{value_at, value_told, sides_of, row_of, column_of, bounded, bounds_for, objective_of, makes_past, is_range_past, first_line}
 use Rattle.mps_lines.specs.Names.{Differ, name_at}
 use Rattle.mps_reader.specs.Ranged.{is_past, sides_if_held}
 use Rattle.mps_reader.specs.declared.columns.Bounding.{Bounding}
@@ -24,7 +23,7 @@ use Rattle.mps_lines.proofs.NameLemmas.{eq_self, eq_from, ne_from, none_some, ab
 use Rattle.mps_reader.proofs.Tellings.{place-name_at}
 use Rattle.mps_reader.proofs.Programs.{map-push, blank-row, blank-column, assembled-start}
 use Rattle.mps_reader.proofs.UsedNames.{absent-bound, used-differ}
-use Rattle.mps_reader.proofs.ByRows.{length_names, thing_at}
+use Rattle.mps_reader.proofs.ByRows.{length_names}
 use Rattle.mps_reader.proofs.FirstLines.{read_at, right_at, kind_at}
 use Rattle.mps_reader.proofs.Pairs.{or_other-none}
 

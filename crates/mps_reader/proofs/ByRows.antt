@@ -1,22 +1,20 @@
 -- Tables by row and by column, when one more is told.
-use Rattle.std.proofs.Common.{◌≡◌, ℕ, zero, suc, ◌+◌, ◌<◌, Bool, true, false, List, [], ◌∷◌, ◌++◌, map, reverse, take, length, get_or, set, replicate, Option, Some, None, refl, sym, ap, subst, ◌∙◌, arith, if◌then◌else◌}
-use Rattle.std.specs.Prelude.{unwrap_or, slice_get}
+use Rattle.std.proofs.Common.{◌≡◌, ℕ, zero, suc, ◌+◌, ◌<◌, Bool, true, false, List, [], ◌∷◌, ◌++◌, map, take, length, get_or, set, replicate, Option, Some, None, refl, sym, ap, subst, ◌∙◌, arith}
+use Rattle.std.specs.Prelude.{slice_get}
 use Rattle.std.specs.List.{AllByRecursion}
 use Rattle.std.specs.Str.{bytes_eq}
 use Rattle.std.proofs.lemmas.Bool.{and_right}
 use Rattle.std.proofs.lemmas.List.{map-id, map_push, take_more, get_or-map}
 use Rattle.rational.specs.Rational.{ℚ, zero_ℚ}
 use Rattle.program_law.specs.Places.{place_of}
-use Rattle.program_law.specs.declared.Column.{Column}
 use Rattle.mps_tokens.specs.declared.words.RowKind.{RowKind}
-use Rattle.mps_grammar.specs.Told.{Telling, BoundTelling, names_of, is_at}
-use Rattle.mps_grammar.specs.Programs.{value_at, value_told, bounds_for}
+use Rattle.mps_grammar.specs.Told.{Telling, BoundTelling, names_of}
+use Rattle.mps_grammar.specs.Programs.{value_at, bounds_for}
 use Rattle.mps_lines.specs.declared.numbers.Entry.{Entry}
 use Rattle.mps_lines.specs.declared.bounds.Bound.{Bound}
 use Rattle.mps_lines.specs.Names.{Differ, name_at}
 use Rattle.mps_lines.specs.Told.{telling_of, tellings_of, IsEntry, AreEntries, bound_telling, bounds_of}
 use Rattle.mps_lines.specs.Notes.{no_column}
-use Rattle.mps_reader.specs.ByRow.{rights_of, ranges_of}
 use Rattle.mps_reader.specs.declared.columns.Bounding.{Bounding}
 use Rattle.mps_reader.specs.Bounding.{bounding_of, boundings_of}
 use Rattle.mps_lines.proofs.NameLemmas.{eq_self, ne_sym}

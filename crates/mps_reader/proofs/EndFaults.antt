@@ -1,18 +1,14 @@
 -- What it says that there is no end fault.
-use Rattle.std.proofs.Common.{◌≡◌, ℕ, Bool, true, false, Option, Some, None, refl, ap, sym, ◌∙◌, if◌then◌else◌}
+use Rattle.std.proofs.Common.{◌≡◌, ℕ, Bool, true, false, Option, Some, None, refl, if◌then◌else◌}
 use Rattle.mps_grammar.specs.declared.kinds.FaultKind.{FaultKind}
 use Rattle.mps_grammar.specs.declared.kinds.FaultKind.TheVariants as kinds
 use Rattle.mps_grammar.specs.Told.{Told}
-use Rattle.mps_grammar.specs.Verdict.{Fault}
 use Rattle.mps_grammar.specs.Programs.{first_line, is_range_past, is_lopsided, gives_pairs_once, fault_at, range_fault, pair_fault, end_fault}
 use Rattle.mps_reader.proofs.Pairs.{IsLevel, or_other-none}
 
 no_line : (kind : FaultKind) (o : Option ℕ) → fault_at kind o ≡ None → o ≡ None
 no_line kind None e = refl
 no_line kind (Some line) e = absurd cc
-
-pub no_range : (told : Told) → end_fault told ≡ None → first_line (is_range_past told) told.ranges ≡ None
-no_range told e = no_line kinds.RangePast (first_line (is_range_past told) told.ranges) (or_other-none (range_fault told) (pair_fault told) e).0
 
 pub level_pairs : (told : Told) → end_fault told ≡ None → IsLevel told
 level_pairs told e both = by_kind (gives_pairs_once told) both (or_other-none (range_fault told) (pair_fault told) e).1

@@ -1,5 +1,5 @@
 -- The first line with such a number, among tellings with the last one first.
-use Rattle.std.proofs.Common.{◌≡◌, ℕ, zero, suc, ◌+◌, ◌<◌, ◌≤◌, Bool, true, false, List, [], ◌∷◌, ◌++◌, map, reverse, take, drop, replicate, length, get_or, Option, Some, None, refl, sym, ap, subst, ◌∙◌, arith, if◌then◌else◌, ◌&&◌, not}
+use Rattle.std.proofs.Common.{◌≡◌, ℕ, zero, suc, ◌+◌, ◌<◌, Bool, true, false, List, [], ◌∷◌, ◌++◌, map, reverse, take, drop, replicate, length, get_or, Option, Some, None, refl, sym, ap, subst, ◌∙◌, arith, if◌then◌else◌, ◌&&◌, not}
 use Rattle.std.specs.Prelude.{slice_get, unwrap_or}
 use Rattle.std.specs.Str.{bytes_eq}
 use Rattle.std.proofs.lemmas.List.{map-append, reverse-append, take-append-drop, get_or-map}
@@ -40,12 +40,6 @@ line-append test (t ∷ ts) us = ap (λ o. or_other o (if test t then Some t.lin
 module _ {X : Type 0} (f : X → Telling) (test : Telling → Bool) (xs : List X) where
   abbrev before : ℕ → Option ℕ
   before k = first_line test (reverse (map f (take k xs)))
-
-  -- none before it, and none with it
-  pub line-none : (k : ℕ) (x : X) → k < length xs → x ≡ get_or xs k x → before k ≡ None → test (f x) ≡ false → before (k + 1) ≡ None
-  line-none k x h is none fails =
-      let here : test (f (get_or xs k x)) ≡ false = ap (λ y. test (f y)) (sym is) ∙ fails in
-      ap (first_line test) (reversed-more f xs k x h) ∙ rw (none, here) refl
 
   -- none before it, and it is one
   pub line-first : (k : ℕ) (x : X) → k < length xs → x ≡ get_or xs k x → before k ≡ None → test (f x) ≡ true → first_line test (reverse (map f xs)) ≡ Some (f x).line
@@ -89,18 +83,6 @@ range-test told e kind right rights differ h kind_is rights_are right_is within 
     rw (k, r) refl
 
 -- ---- the table of pairs
-
-pub square_at : (names : List (List ℕ)) (f : List ℕ → List ℕ → ℚ) (i j : ℕ) (v : ℚ) → i < length names → j < length names → slice_get (get_or (square_of names f) i []) j ≡ Some v → f (name_at names i) (name_at names j) ≡ v
-square_at names f i j v h k e =
-    let row : get_or (square_of names f) i [] ≡ map (λ other. f (name_at names i) other) names = get_or-map (λ one. map (λ other. f one other) names) names i [] [] h in
-    sym (get_or-map (λ other. f (name_at names i) other) names j [] v k) ∙ read_at (map (λ other. f (name_at names i) other) names) j v v (ap (λ (l : List ℚ). slice_get l j) (sym row) ∙ e)
-
-pub pair-test : (names : List (List ℕ)) (pairs : List Telling) (e : Entry) (rows : List (List ℚ)) (v : ℚ) → rows ≡ square_of names (value_told pairs) → e.column < length names → e.row < length names → slice_get (get_or rows e.row []) e.column ≡ Some v
-    → (not (is_zero e.value) && not (same_fields v e.value)) ≡ is_lopsided pairs (telling_of names names e)
-pair-test names pairs e rows v is column row found =
-    let across : value_told pairs (name_at names e.row) (name_at names e.column) ≡ v =
-    square_at names (value_told pairs) e.row e.column v row column (ap (λ (l : List (List ℚ)). slice_get (get_or l e.row []) e.column) (sym is) ∙ found) in
-    rw across refl
 
 pub value-more : (told : List Telling) (t : Telling) (x y : List ℕ) → value_told (t ∷ told) x y ≡ if bytes_eq x t.column && bytes_eq y t.row then t.value else value_told told x y
 value-more told t x y = by_test (bytes_eq x t.column && bytes_eq y t.row)

@@ -1,10 +1,10 @@
 -- The sides that a row of a program file has are sides that a row may have.
-use Rattle.std.proofs.Common.{◌≡◌, ℕ, ◌≤◌, Bool, true, false, Option, Some, None, refl, sym, ap, subst, ◌∙◌, inl, inr, [], ◌∷◌, arith, if◌then◌else◌}
-use Rattle.std.specs.Prelude.{IsTrue, IsSome, pos, ℤ, neg_ℤ, unsigned_abs, ◌≤ℤ◌}
+use Rattle.std.proofs.Common.{◌≡◌, Bool, true, false, Some, refl, sym, ap, subst, ◌∙◌, inl, inr, [], ◌∷◌, arith, if◌then◌else◌}
+use Rattle.std.specs.Prelude.{IsTrue, ℤ, neg_ℤ, unsigned_abs}
 use Rattle.std.proofs.lemmas.Int.{ints}
 use Rattle.algebra.proofs.Polynomial.{◌⊕◌, ◌⊝◌}
 use Rattle.rational.specs.Rational.{ℚ, zero_ℚ, neg_ℚ, ◌+ℚ◌, ◌-ℚ◌, whole, ratio, same_ℚ, fits, Fits}
-use Rattle.rational.specs.Order.{◌≤ℚ◌, ◌<ℚ◌}
+use Rattle.rational.specs.Order.{◌≤ℚ◌}
 use Rattle.rational.specs.Divisors.{gcd_of}
 use Rattle.rational.proofs.Order.{le_refl, lt_le, le_or_lt}
 use Rattle.rational.proofs.OrderLaws.{le_by, neg-le-neg}
@@ -15,12 +15,11 @@ use Rattle.frac_core.specs.Parts.{max_part}
 use Rattle.program_law.proofs.Ring.{ring_by, x0, x1}
 use Rattle.program_law.proofs.Numbers.{negative_below, below_negative}
 use Rattle.program_law.specs.Tests.{is_negative}
-use Rattle.program_law.specs.declared.Row.{Row}
 use Rattle.program_law.specs.Program.{IsRow}
 use Rattle.mps_tokens.specs.declared.words.RowKind.{RowKind}
 use Rattle.mps_tokens.specs.declared.words.RowKind.TheVariants.{Objective, AtMost, AtLeast, Equal}
 use Rattle.mps_grammar.specs.Told.{binds}
-use Rattle.mps_grammar.specs.Programs.{size, plain_sides, ranged_sides, sides_of}
+use Rattle.mps_grammar.specs.Programs.{size, plain_sides, ranged_sides}
 
 some_is : (a b : ℚ) → Some a ≡ Some b → a ≡ b
 some_is a b e = cc

@@ -1,18 +1,16 @@
 -- The programs between two numbers that are set.
-use Rattle.std.proofs.Common.{◌≡◌, ℕ, zero, suc, ◌+◌, ◌<◌, ◌≤◌, List, [], ◌∷◌, map, take, length, get_or, Option, Some, None, refl, sym, ap, subst, ◌∙◌, arith, IfSome}
-use Rattle.rational.specs.Rational.{ℚ}
+use Rattle.std.proofs.Common.{◌≡◌, ℕ, ◌+◌, ◌<◌, ◌≤◌, List, ◌∷◌, take, length, get_or, Option, Some, None, sym, ap, subst, ◌∙◌, arith, IfSome}
 use Rattle.program_law.specs.Places.{place_of}
 use Rattle.program_law.specs.Program.{Program}
 use Rattle.program_law.specs.Changes.{with_pair}
 use Rattle.mps_grammar.specs.Told.{Told, Telling, names_of, program_rows, used_names}
-use Rattle.mps_grammar.specs.Programs.{row_of}
 use Rattle.mps_lines.specs.declared.numbers.Entry.{Entry}
 use Rattle.mps_lines.specs.Names.{Differ, name_at}
 use Rattle.mps_lines.specs.Told.{telling_of, tellings_of, IsEntry, AreEntries}
 use Rattle.mps_reader.specs.Assembled.{assembled, with_placed}
 use Rattle.mps_lines.proofs.PlaceLemmas.{place_below}
 use Rattle.mps_reader.proofs.Tellings.{reversed-more, each_at, place-name_at}
-use Rattle.mps_reader.proofs.Programs.{assembled-entry, assembled-unused, assembled-pair, map-length}
+use Rattle.mps_reader.proofs.Programs.{assembled-entry, assembled-unused, assembled-pair}
 use Rattle.mps_reader.proofs.ByRows.{length_names}
 
 module _ (told : Told) where

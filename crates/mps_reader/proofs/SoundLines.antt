@@ -16,17 +16,17 @@ use Rattle.mps_tokens.specs.declared.words.Section.TheVariants as sections
 use Rattle.mps_tokens.specs.declared.words.RowKind.{RowKind}
 use Rattle.mps_grammar.specs.declared.kinds.FaultKind.{FaultKind}
 use Rattle.mps_grammar.specs.declared.kinds.FaultKind.TheVariants as kinds
-use Rattle.mps_grammar.specs.Lines.{field, is_comment, is_passed, is_indented, section_in}
+use Rattle.mps_grammar.specs.Lines.{field, is_comment, is_passed, is_indented}
 use Rattle.mps_grammar.specs.Fields.{Pair, Entries, row_kind_in, row_name_in, entries_in}
-use Rattle.mps_grammar.specs.Told.{Told, Telling, is_at, is_told, is_columns, is_quadratic, binds, program_rows, objective_in, row_in, row_told, value_or_zero, with_pairs, with_entries, quadratic_number, told_by}
+use Rattle.mps_grammar.specs.Told.{Told, Telling, is_at, is_told, is_columns, is_quadratic, binds, program_rows, objective_in, row_told, value_or_zero, with_pairs, with_entries, quadratic_number, told_by}
 use Rattle.mps_grammar.specs.Programs.{is_quadobj, gives_pairs_once}
-use Rattle.mps_grammar.specs.Faults.{Tests, first_of, gives_twice, is_given_pair, any_pair, row_tests, named_row_tests, pair_tests, data_tests, may_begin, header_tests, section_tests, content_tests, shown_tests, line_fault, is_beyond, is_plain}
-use Rattle.mps_grammar.specs.After.{told_more, told_within, told_header, told_content, told_shown, counted, told_after}
+use Rattle.mps_grammar.specs.Faults.{Tests, first_of, gives_twice, is_given_pair, any_pair, row_tests, named_row_tests, pair_tests, data_tests, may_begin, header_tests, section_tests, shown_tests, line_fault, is_beyond, is_plain}
+use Rattle.mps_grammar.specs.After.{told_more, told_within, told_header, told_shown, counted, told_after}
 use Rattle.mps_grammar.specs.Verdict.{Fault, is_end, ends, unless, verdict, verdict_of}
 use Rattle.mps_grammar.specs.Reading.{Spot, behind, told_verdict, told_of}
 use Rattle.mps_grammar.proofs.After.{told_line}
 use Rattle.mps_reader.specs.Sound.{AreToldOnce, HaveOneQuadratic, IsSound}
-use Rattle.mps_lines.proofs.NameLemmas.{eq_from, ne_sym, ne_from, ne_eq}
+use Rattle.mps_lines.proofs.NameLemmas.{eq_from, ne_sym, ne_eq}
 use Rattle.mps_reader.proofs.Additions.{filter-push}
 
 -- ---- tests that fail

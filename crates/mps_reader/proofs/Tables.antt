@@ -17,10 +17,6 @@ unchanged name f g m (x ∷ xs) absent other =
     let rest : map g xs ≡ map f xs = unchanged name f g m xs p.1 other in
     rw (here, rest) refl
 
--- a thing under its name
-abbrev pub under : {X A : Type 0} → (X → List ℕ) → (X → A) → X → List ℕ × A
-under name f x = (name x, f x)
-
 module _ {X A : Type 0} (name : X → List ℕ) (f g : X → A) (h : A → A) (d : A) (m : List ℕ) (other : (x : X) → bytes_eq m (name x) ≡ false → g x ≡ f x) (same : (x : X) → bytes_eq m (name x) ≡ true → g x ≡ h (f x)) where
   -- only the item at the name's place is different
   pub changed_at : (xs : List X) (k : ℕ) → Differ (map name xs) → place_of (map name xs) m ≡ Some k → map g xs ≡ set (map f xs) k (h (get_or (map f xs) k d))
@@ -42,30 +38,6 @@ module _ {X A : Type 0} (name : X → List ℕ) (f g : X → A) (h : A → A) (d
           let here : g x ≡ f x = other x e in
           let at : place_of (map name xs) m ≡ Some k = p ∙ ap (λ (n : ℕ). Some n) jk in
           let rest : map g xs ≡ set (map f xs) k (h (get_or (map f xs) k d)) = again k at in
-          rw (here, rest) refl
-
-  -- the same of things under their names
-  pub renewed_at : (xs : List X) (k : ℕ) (s : A) → Differ (map name xs) → place_of (map name xs) m ≡ Some k → slice_get (map (λ (r : List ℕ × A). r.1) (map (under name f) xs)) k ≡ Some s → map (under name g) xs ≡ renewed (map (under name f) xs) k (h s)
-  renewed_at [] k s differ at found = absurd cc
-  renewed_at (x ∷ xs) k s differ at found = step (bytes_eq m (name x)) (place_of (map name xs) m) k refl refl at found (λ k p q. renewed_at xs k s differ.1 p q)
-    where
-      step : (b : Bool) (o : Option ℕ) (k : ℕ) → bytes_eq m (name x) ≡ b → place_of (map name xs) m ≡ o → cond b (Some 0) (option_map suc o) ≡ Some k → slice_get (map (λ (r : List ℕ × A). r.1) (map (under name f) (x ∷ xs))) k ≡ Some s
-          → ((k : ℕ) → place_of (map name xs) m ≡ Some k → slice_get (map (λ (r : List ℕ × A). r.1) (map (under name f) xs)) k ≡ Some s → map (under name g) xs ≡ renewed (map (under name f) xs) k (h s))
-          → map (under name g) (x ∷ xs) ≡ renewed (map (under name f) (x ∷ xs)) k (h s)
-      step true o zero e p q found again =
-          let gone : place_of (map name xs) m ≡ None = ap (place_of (map name xs)) (eq_from m (name x) e) ∙ differ.0 in
-          let fs : f x ≡ s = cc in
-          let here : g x ≡ h s = same x e ∙ ap h fs in
-          let rest : map (under name g) xs ≡ map (under name f) xs = unchanged name (under name f) (under name g) m xs gone (λ x e. ap (λ (a : A). (name x, a)) (other x e)) in
-          rw (here, rest) refl
-      step true o (suc k) e p q found again = absurd cc
-      step false None k e p q found again = absurd cc
-      step false (Some j) zero e p q found again = absurd cc
-      step false (Some j) (suc k) e p q found again =
-          let jk : j ≡ k = cc in
-          let here : g x ≡ f x = other x e in
-          let at : place_of (map name xs) m ≡ Some k = p ∙ ap (λ (n : ℕ). Some n) jk in
-          let rest : map (under name g) xs ≡ renewed (map (under name f) xs) k (h s) = again k at found in
           rw (here, rest) refl
 
 -- another value for the name at a place

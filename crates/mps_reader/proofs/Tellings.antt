@@ -1,15 +1,10 @@
 -- Numbers in order, as tellings with the last one first.
-use Rattle.std.proofs.Common.{◌≡◌, ℕ, zero, suc, ◌+◌, ◌<◌, List, [], ◌∷◌, ◌++◌, map, reverse, take, length, get_or, Option, Some, None, refl, sym, ap, ◌∙◌, arith}
-use Rattle.std.specs.Prelude.{slice_get}
+use Rattle.std.proofs.Common.{◌≡◌, ℕ, zero, suc, ◌+◌, ◌<◌, List, [], ◌∷◌, map, reverse, take, length, get_or, Some, refl, sym, ap, ◌∙◌, arith}
 use Rattle.std.specs.List.{AllByRecursion}
-use Rattle.std.specs.Str.{bytes_eq}
-use Rattle.std.proofs.lemmas.List.{map_push, take_more, reverse-append, get_or-map}
+use Rattle.std.proofs.lemmas.List.{map_push, take_more, reverse-append}
 use Rattle.program_law.specs.Places.{place_of}
-use Rattle.mps_tokens.specs.declared.words.RowKind.{RowKind}
-use Rattle.mps_tokens.specs.Cases.{named}
-use Rattle.mps_grammar.specs.Told.{names_of}
 use Rattle.mps_lines.specs.Names.{Differ, name_at}
-use Rattle.mps_lines.proofs.NameLemmas.{eq_self, ne_eq, ne_from, none_some}
+use Rattle.mps_lines.proofs.NameLemmas.{eq_self, ne_from, none_some}
 
 -- one more of them
 pub reversed-more : {X Y : Type 0} (f : X → Y) (xs : List X) (k : ℕ) (d : X) → k < length xs → reverse (map f (take (k + 1) xs)) ≡ f (get_or xs k d) ∷ reverse (map f (take k xs))

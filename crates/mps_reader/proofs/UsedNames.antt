@@ -1,13 +1,12 @@
 -- The names of the objective and the rows of a program.
-use Rattle.std.proofs.Common.{◌≡◌, ℕ, zero, suc, ◌+◌, ◌<◌, ◌≤◌, Bool, true, false, cond, List, [], ◌∷◌, ◌++◌, map, filter, take, drop, length, get_or, Option, Some, None, refl, sym, ap, subst, ◌∙◌, arith, if◌then◌else◌, IsSome}
+use Rattle.std.proofs.Common.{◌≡◌, ℕ, Bool, true, false, List, [], ◌∷◌, Option, Some, None, refl, sym, ap, ◌∙◌, if◌then◌else◌, IsSome}
 use Rattle.std.specs.Prelude.{unwrap_or}
-use Rattle.std.specs.Option.{option_map}
 use Rattle.std.specs.Str.{bytes_eq}
 use Rattle.program_law.specs.Places.{place_of}
 use Rattle.mps_tokens.specs.declared.words.RowKind.{RowKind}
 use Rattle.mps_grammar.specs.Told.{names_of, binds, program_rows, objective_in, used_names}
 use Rattle.mps_lines.specs.Names.{Differ}
-use Rattle.mps_lines.proofs.NameLemmas.{eq_self, eq_from, ne_from, ne_sym, absent_parts, absent_head}
+use Rattle.mps_lines.proofs.NameLemmas.{eq_self, ne_from, absent_parts, absent_head}
 
 -- a name that isn't there isn't among the rows of the program
 pub absent-bound : (rows : List (List ℕ × RowKind)) (name : List ℕ) → place_of (names_of rows) name ≡ None → place_of (names_of (program_rows rows)) name ≡ None

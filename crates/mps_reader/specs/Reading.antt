@@ -1,7 +1,6 @@
 -- What finishing what is told, and reading a text, answer.
-use Rattle.std.specs.Prelude.{◌≡◌, ℕ, Option, None, Some, Result, Ok, Err, ⊤}
+use Rattle.std.specs.Prelude.{◌≡◌, None, Some, Result, Ok, Err, ⊤}
 use Rattle.program_law.specs.Program.{Program}
-use Rattle.mps_grammar.specs.declared.kinds.FaultKind.{FaultKind}
 use Rattle.mps_grammar.specs.Told.{Told}
 use Rattle.mps_grammar.specs.Verdict.{Fault}
 use Rattle.mps_grammar.specs.Programs.{program_of, end_fault}

@@ -84,7 +84,8 @@ fn three_files_of_one_program(rt: HostRuntime) {
 
 #[test]
 fn end_faults(rt: HostRuntime) {
-    let range = "ROWS\n N obj\n L c\nCOLUMNS\n x c 1\nRHS\n R c -170141183460469231731687303715884105727/1\nRANGES\n R c 1\nENDATA\n";
+    let range =
+        "ROWS\n N obj\n L c\nCOLUMNS\n x c 1\nRHS\n R c -170141183460469231731687303715884105727/1\nRANGES\n R c 1\nENDATA\n";
     assert!(rt; has_fault(&rt, range, 9, FaultKind::RangePast));
     let pair = "ROWS\n N obj\nCOLUMNS\n x obj 1\n y obj 1\nQMATRIX\n x y 1\nENDATA\n";
     assert!(rt; has_fault(&rt, pair, 7, FaultKind::NotSymmetric));
@@ -136,7 +137,8 @@ fn has_bounds(p: &Program) -> bool {
 
 #[test]
 fn bounds(rt: HostRuntime) {
-    let text = "ROWS\n N obj\nCOLUMNS\n a obj 1\n b obj 1\n c obj 1\n d obj 1\n e obj 1\nBOUNDS\n UP a -1\n LO b -2\n UP b -1\n BV c\n LI d 3\n UI e 4\nENDATA\n";
+    let text =
+        "ROWS\n N obj\nCOLUMNS\n a obj 1\n b obj 1\n c obj 1\n d obj 1\n e obj 1\nBOUNDS\n UP a -1\n LO b -2\n UP b -1\n BV c\n LI d 3\n UI e 4\nENDATA\n";
     let read = program_of(&rt, text);
     let holds = match &read {
         Some(p) => has_bounds(p),

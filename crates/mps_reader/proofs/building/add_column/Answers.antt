@@ -1,4 +1,4 @@
-use Rattle.std.proofs.Common.{sym, ap, ◌∙◌, ◌≡◌, List, [], ℕ, Some}
+use Rattle.std.proofs.Common.{sym, ◌∙◌, ◌≡◌, List, [], ℕ, Some}
 use Rattle.std.specs.Prelude.{slice_get}
 use Rattle.mps_grammar.specs.Told.{names_of}
 use Rattle.mps_lines.specs.Names.{name_at}

@@ -1,4 +1,4 @@
-use Rattle.std.proofs.Common.{sym, ◌∙◌}
+use Rattle.std.proofs.Common.{sym}
 use Rattle.mps_reader.proofs.Additions.{objective-at, objective-none}
 use Rattle.mps_reader.proofs.building.objective_row.Goals as goal
 

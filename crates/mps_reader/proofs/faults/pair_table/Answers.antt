@@ -1,4 +1,4 @@
-use Rattle.std.proofs.Common.{sym, ap, ◌∙◌, ◌≡◌, take, length, arith, List}
+use Rattle.std.proofs.Common.{sym, ap, ◌∙◌, ◌≡◌, take, List}
 use Rattle.std.proofs.lemmas.List.{take_all}
 use Rattle.rational.specs.Rational.{ℚ}
 use Rattle.exact_matrix.specs.Grid.{Grid}

@@ -8,5 +8,5 @@ use Rattle.mps_reader.proofs.faults.pair_table.Given as goal
 abbrev pub invariant-loop-pair : goal.invariant-loop-pair
 invariant-loop-pair l = record {
   columns : l.table.columns ≡ length l.draft.columns;
-  rows : l.table.rows ≡ square_of (names_of l.draft.columns) (value_told (tellings_of (names_of l.draft.columns) (names_of l.draft.columns) (take l.pair-index l.pairs)))
+  rows : l.table.rows ≡ square_of (names_of l.draft.columns) (value_told (tellings_of (names_of l.draft.columns) (names_of l.draft.columns) (take l.pair-index l.pairs)));
 }

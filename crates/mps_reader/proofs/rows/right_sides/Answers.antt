@@ -1,4 +1,4 @@
-use Rattle.std.proofs.Common.{refl, ◌∙◌}
+use Rattle.std.proofs.Common.{◌∙◌}
 use Rattle.std.specs.Prelude.{unwrap_or}
 use Rattle.rational.specs.Rational.{zero_ℚ}
 use Rattle.mps_grammar.specs.Told.{names_of}

@@ -1,7 +1,6 @@
-use Rattle.std.proofs.Common.{subst, sym, ap, ℕ, ◌≤◌}
-use Rattle.std.specs.Prelude.{unsigned_abs, ℤ, pos}
+use Rattle.std.proofs.Common.{subst, ◌≤◌}
+use Rattle.std.specs.Prelude.{unsigned_abs, ℤ}
 use Rattle.frac_core.specs.Parts.{max_part}
-use Rattle.program_law.specs.Program.{IsRow}
 use Rattle.mps_reader.proofs.GoodSides.{IsRow-plain, IsRow-ranged}
 use Rattle.mps_reader.proofs.sides.sides.Goals as goal
 
