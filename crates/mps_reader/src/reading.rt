@@ -1,7 +1,8 @@
 // Reading a program from a text.
 
-ghost use Rattle.std.specs.Prelude.{◌≤◌, ◌^◌, length};
+ghost use Rattle.std.specs.Prelude.{◌≤◌, ◌^◌, length, IfOk};
 ghost use Rattle.mps_grammar.specs.Reading.{read_of};
+ghost use Rattle.mps_lines.specs.Reading.{IsPlaceIn};
 ghost use Rattle.mps_reader.specs.Reading.{Reads};
 
 use crate::finishing::finish;
@@ -15,7 +16,8 @@ use std::alloc::Global;
 /// The fault of the first line that has one, or else the fault that all of them make together; or `Memory`.
 pub fn read(alloc: Global, text: &[u8]) -> Result<(Program, Place), ReadStop>
     requires { length text.now ≤ 2 ^ 30 }
-    ensures { Reads (read_of text.now) result }
+    ensures reads { Reads (read_of text.now) result }
+    ensures place { IfOk result (λ r. IsPlaceIn text.now r.1) }
 {
     let (draft, place) = told(alloc, text)?;
     let program = finish(alloc, &draft)?;

@@ -9,7 +9,7 @@ ghost use Rattle.mps_grammar.specs.Reading.{read_of, rest_of};
 ghost use Rattle.qp_engine.specs.Due.{due, file_due, check_due, write_due, found_due, curvature_due, task_due};
 ghost use Rattle.qp_engine.specs.Runs.{Settles, SettlesProgram, HasVerified, HasSolved};
 ghost use Rattle.mps_tokens.specs.Lines.{raw_lines};
-ghost use Rattle.mps_reader.specs.Reading.{spot_of};
+ghost use Rattle.mps_lines.specs.Reading.{spot_of, IsPlaceIn};
 ghost use Rattle.cert_text.specs.Writable.{IsWritable};
 ghost use Rattle.convexity.specs.ReductionCalculation.{squares_of};
 
@@ -47,8 +47,7 @@ fn line_count(text: &[u8]) -> usize
 /// The answer to the certificate behind a program.
 fn checked(alloc: Global, program: &Program, input: &[u8], place: Place) -> Result<Answer, Memory>
     requires short { length input.now ≤ 1073741824 }
-    requires byte { place.byte ≤ length input.now }
-    requires line { place.line ≤ 1073741824 }
+    requires place { IsPlaceIn input.now place }
     ensures due { IfOk result (λ a. a ≡ check_due program.now input.now (rest_of input.now (spot_of place))) }
     ensures holds { IfOk result (λ a. a.status ≡ Status.Done → HasVerified program.now input.now (rest_of input.now (spot_of place))) }
     ensures no_usage { IfOk result (λ a. a.status ≢ Status.Usage) }
@@ -137,8 +136,7 @@ fn answered(
     place: Place,
 ) -> Result<Answer, Memory>
     requires short { length input.now ≤ 1073741824 }
-    requires byte { place.byte ≤ length input.now }
-    requires line { (1 ≤ place.line) × (place.line ≤ 1073741824) }
+    requires place { IsPlaceIn input.now place }
     ensures due { IfOk result (λ a. a ≡ task_due task input.now program.now (spot_of place)) }
     ensures settled { IfOk result (λ a. a.status ≡ Status.Done →
         SettlesProgram task input.now a.text program.now (spot_of place)) }
