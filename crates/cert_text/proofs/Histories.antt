@@ -156,7 +156,7 @@ track c r s d (items.W j v) m t = record { wanted = kept (with_w j v) (same_w j 
 track c r s d (items.Y i v) m t = record { wanted = kept (with_y i v) (same_y i v) (Some 1) d.nodes ∙ t.wanted; done = not_ended s.wanted }
 track c r s d items.End m t = record { wanted = t.wanted; done = λ e. eqb-true s.wanted 0 m }
 
-tracks : (claim : Claim) (columns rows : ℕ) (s : Place) (d : Draft) (item : Item) → may_stand s (item_word item) ≡ true → Tracks claim s d.nodes → Tracks claim (after s item) (with_item columns rows item d).nodes
+pub tracks : (claim : Claim) (columns rows : ℕ) (s : Place) (d : Draft) (item : Item) → may_stand s (item_word item) ≡ true → Tracks claim s d.nodes → Tracks claim (after s item) (with_item columns rows item d).nodes
 tracks Optimal c r s d item m t = track c r s d item m t
 tracks Infeasible c r s d item m t = track c r s d item m t
 tracks Unbounded c r s d item m t = tt
@@ -196,7 +196,7 @@ start_counted Infeasible = record { wanted = omega arith; squares = omega arith;
 start_counted Unbounded = record { wanted = omega arith; squares = omega arith; branches = omega arith }
 start_counted NotConvex = record { wanted = omega arith; squares = omega arith; branches = omega arith }
 
-start_tracked : (claim : Claim) → Tracks claim (start claim) []
+pub start_tracked : (claim : Claim) → Tracks claim (start claim) []
 start_tracked Optimal = record { wanted = refl; done = λ e. absurd cc }
 start_tracked Infeasible = record { wanted = refl; done = λ e. absurd cc }
 start_tracked Unbounded = tt

@@ -61,10 +61,10 @@ lowest_differs negative top bottom w d r v e h k is ok den small test =
 
 -- ---- a number without a slash
 
-not_above : (n : ℕ) → n ≤ max_part → nat_lt max_part n ≡ false
+pub not_above : (n : ℕ) → n ≤ max_part → nat_lt max_part n ≡ false
 not_above n h = grind (arith, nat_tests)
 
-whole_lowest : (negative : Bool) (n : ℕ) → lowest_number negative n 1 ≡ Ok (whole (signed negative n))
+pub whole_lowest : (negative : Bool) (n : ℕ) → lowest_number negative n 1 ≡ Ok (whole (signed negative n))
 unfolding lowest_number
 whole_lowest negative n =
     ap (λ (q : ℚ). if q.den == 1 then Ok q else Err NotNumber) (fraction_one (signed negative n))
@@ -80,6 +80,7 @@ whole_number negative digits n w v numeral value small e is =
     in_word : (negative : Bool) (n : ℕ) (w : ℤ) → w ≡ signed negative n → n ≤ max_part → to_z w128 (of_z w128 w) ≡ w
     in_word true n w e h = omega (arith, ints, e, h)
     in_word false n w e h = omega (arith, ints, e, h)
+
     back : (a b c d : ℤ) → a ≡ b → b ≡ c → c ≡ d → a ≡ d
     back a b c d p q r = p ∙ q ∙ r
 

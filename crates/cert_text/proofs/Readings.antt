@@ -24,7 +24,7 @@ ended : (p : Program) (claim : Claim) (earlier : List Item) (s : Place) (d : Dra
 ended p claim earlier s d b h e = ap (λ (s : Place). is_ended s.part) (sym h.place) ∙ e
 
 -- the text of a line and what stands behind it
-step : (p : Program) (claim : Claim) (n : ℕ) (earlier : List Item) (line text rest : List ℕ) → pieces_of text ≡ line ∷ pieces_of rest → is_ended (place_after claim earlier).part ≡ false
+pub step : (p : Program) (claim : Claim) (n : ℕ) (earlier : List Item) (line text rest : List ℕ) → pieces_of text ≡ line ∷ pieces_of rest → is_ended (place_after claim earlier).part ≡ false
     → read_on p claim n earlier (pieces_of text)
     ≡ fault_or (line_fault p (place_after claim earlier) (parts_of line)) n (read_on p claim (n + 1) (item_of p (parts_of line) ∷ earlier) (pieces_of rest))
 step p claim n earlier line text rest pieces e = let f = split_has_first 10 rest in rw (pieces, f.parts_are, e) refl

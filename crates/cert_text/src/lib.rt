@@ -3,23 +3,23 @@
 
 mod draft;
 mod fields;
-mod fitting;
 mod items;
 mod kinds;
+mod laws;
 mod line;
 mod lines;
 mod names;
-mod openings;
 mod numbers;
+mod openings;
 mod places;
 mod reading;
 mod splitting;
 mod writing;
 
-pub use fitting::certificates_that_are_read_fit;
+pub use kinds::{CertKind, CertStop};
+pub use laws::{numbers_are_read_back, texts_are_read_back};
 pub use reading::read_certificate;
 pub use writing::write_certificate;
-pub use kinds::{CertKind, CertStop};
 
 #[cfg(test)]
 mod tests;

@@ -30,18 +30,36 @@ fn read_word(
             Ok(Item::Value(value))
         }
         CertificateWord::Point => {
-            let (column, value) =
-                read_entry(p, Axis::Columns, place, word, Allowed::NotZero, line)?;
+            let (column, value) = read_entry(
+                p,
+                Axis::Columns,
+                place,
+                word,
+                Allowed::NotZero,
+                line,
+            )?;
             Ok(Item::Point(column, value))
         }
         CertificateWord::Ray => {
-            let (column, value) =
-                read_entry(p, Axis::Columns, place, word, Allowed::NotZero, line)?;
+            let (column, value) = read_entry(
+                p,
+                Axis::Columns,
+                place,
+                word,
+                Allowed::NotZero,
+                line,
+            )?;
             Ok(Item::Ray(column, value))
         }
         CertificateWord::Vector => {
-            let (column, value) =
-                read_entry(p, Axis::Columns, place, word, Allowed::NotZero, line)?;
+            let (column, value) = read_entry(
+                p,
+                Axis::Columns,
+                place,
+                word,
+                Allowed::NotZero,
+                line,
+            )?;
             Ok(Item::Direction(column, value))
         }
         CertificateWord::Square => {
@@ -49,8 +67,14 @@ fn read_word(
             Ok(Item::Square(weight))
         }
         CertificateWord::Coef => {
-            let (column, value) =
-                read_entry(p, Axis::Columns, place, word, Allowed::NotZero, line)?;
+            let (column, value) = read_entry(
+                p,
+                Axis::Columns,
+                place,
+                word,
+                Allowed::NotZero,
+                line,
+            )?;
             Ok(Item::Coef(column, value))
         }
         CertificateWord::Branch => {
@@ -70,8 +94,14 @@ fn read_word(
             Ok(Item::Cross(column))
         }
         CertificateWord::W => {
-            let (column, value) =
-                read_entry(p, Axis::Columns, place, word, Allowed::NotZero, line)?;
+            let (column, value) = read_entry(
+                p,
+                Axis::Columns,
+                place,
+                word,
+                Allowed::NotZero,
+                line,
+            )?;
             Ok(Item::W(column, value))
         }
         CertificateWord::Y => {

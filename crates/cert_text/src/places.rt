@@ -164,13 +164,7 @@ impl Place {
         ensures { result ≡ least self word }
     {
         match word {
-            CertificateWord::Ray => {
-                if self.part.is_rays() {
-                    self.next
-                } else {
-                    0
-                }
-            }
+            CertificateWord::Ray => { if self.part.is_rays() { self.next } else { 0 } }
             CertificateWord::Y => {
                 if self.part.is_multipliers() {
                     self.next

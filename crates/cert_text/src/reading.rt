@@ -1,8 +1,9 @@
 // The certificate of a text.
 
-ghost use Rattle.std.specs.Prelude.{◌≡◌, ◌≤◌, ◌^◌, ◌+◌, [], length};
+ghost use Rattle.std.specs.Prelude.{◌≡◌, ◌≤◌, ◌^◌, ◌+◌, [], length, IfOk};
 ghost use Rattle.cert_text.specs.Parts.{pieces_of};
 ghost use Rattle.cert_text.specs.Reading.{claim_in, read_on, read_of, Reads};
+ghost use Rattle.cert_text.specs.Writable.{IsWritable};
 
 use crate::draft::Draft;
 use crate::items::Claim;
@@ -69,16 +70,8 @@ fn read_claimed(
     Ok(certificate)
 }
 
-/// The certificate of a text for a program. `line` is the number of the text's first line.
-///
-/// # Errors
-/// `Fault` with the first line at which the text leaves the grammar and how, or `Memory`.
-pub fn read_certificate(
-    alloc: Global,
-    p: &Program,
-    text: &[u8],
-    line: u32,
-) -> Result<Certificate, CertStop>
+/// What the text says.
+fn read_text(alloc: Global, p: &Program, text: &[u8], line: u32) -> Result<Certificate, CertStop>
     requires text { length text.now ≤ 2 ^ 30 }
     requires line { line ≤ 2 ^ 31 }
     ensures { Reads (read_of p.now line text.now) result }
@@ -92,4 +85,24 @@ pub fn read_certificate(
         return Err(CertStop::Fault { line, kind });
     };
     read_claimed(alloc, p, claim, rest, line + 1)
+}
+
+/// The certificate of a text for a program. `line` is the number of the text's first line. What is read can be written, and so it
+/// can be checked.
+///
+/// # Errors
+/// `Fault` with the first line at which the text leaves the grammar and how, or `Memory`.
+#[tactic(auto, using(crate::proofs::Accepts::all_writable))]
+pub fn read_certificate(
+    alloc: Global,
+    p: &Program,
+    text: &[u8],
+    line: u32,
+) -> Result<Certificate, CertStop>
+    requires text { length text.now ≤ 2 ^ 30 }
+    requires line { line ≤ 2 ^ 31 }
+    ensures exact { Reads (read_of p.now line text.now) result }
+    ensures writable { IfOk result (λ c. IsWritable p.now c) }
+{
+    read_text(alloc, p, text, line)
 }

@@ -2,7 +2,7 @@
 
 use crate::{CertKind, CertStop, read_certificate, write_certificate};
 use certificate_law::{Certificate, Node};
-use frac_core::{Frac, Vector};
+use frac_core::Frac;
 use program_model::{AddFault, Column, Name, Program, Row, is_marker, is_row};
 use std::alloc::Global;
 use std::test::Fail;
@@ -46,49 +46,95 @@ fn program(alloc: Global) -> Result<Program, Fail> {
 
 const LONGEST: usize = 1 << 30;
 
-fn read(alloc: Global, p: &Program, text: &str) -> Result<Certificate, CertStop> {
+// Whether the third line of a text is the first with a fault, and the fault is of this kind.
+fn is_fault(rt: &HostRuntime, p: &Program, text: &str, kind: CertKind) -> bool {
     if text.len() > LONGEST {
-        return Err(CertStop::Memory);
+        return false;
     }
-    read_certificate(alloc, p, text.as_bytes(), 19)
-}
-
-fn is_fault(read: &Result<Certificate, CertStop>, line: u32, kind: CertKind) -> bool {
-    match read {
-        Err(CertStop::Fault { line: at, kind: is }) => *at == line && *is == kind,
+    match read_certificate(rt.alloc(), p, text.as_bytes(), 19) {
+        Err(CertStop::Fault { line, kind: found }) => line == 21 && found == kind,
         _ => false,
     }
 }
 
 #[test]
-fn faults(rt: HostRuntime) -> Result<(), Fail> {
+fn end_faults(rt: HostRuntime) -> Result<(), Fail> {
     let p = program(rt.alloc())?;
-    for (text, line, kind) in [
-        ("", 19, CertKind::CertEnd),
-        ("INFEASIBLE\nCROSS x\nEND", 21, CertKind::CertEnd),
-        ("NOTCONVEX\nEND\n\n", 21, CertKind::CertAfter),
-        ("PERHAPS\n", 19, CertKind::CertLine),
-        ("INFEASIBLE\nBOUND\n", 20, CertKind::CertLine),
-        ("INFEASIBLE\nFARKAS\nY c2  1\n", 21, CertKind::CertLine),
-        ("INFEASIBLE\nFARKAS\nY x 1\n", 21, CertKind::CertName),
-        ("INFEASIBLE\nFARKAS\nY c2 2/4\n", 21, CertKind::CertNumber),
-        ("INFEASIBLE\nFARKAS\nY c2 -0\n", 21, CertKind::CertNumber),
-        ("OPTIMAL\nVALUE 007\n", 20, CertKind::CertNumber),
-        (
-            "OPTIMAL\nVALUE 170141183460469231731687303715884105728/2\n",
-            20,
-            CertKind::CertPast,
-        ),
-        ("OPTIMAL\nVALUE 8\nSQUARE 0\n", 21, CertKind::CertNumber),
-        ("INFEASIBLE\nBRANCH x 1/2\n", 20, CertKind::CertNumber),
-        (
-            "OPTIMAL\nVALUE 8\nPOINT x 2\nPOINT x 2\n",
-            22,
-            CertKind::CertOrder,
-        ),
+    for text in ["INFEASIBLE\nCROSS x\nEND", "INFEASIBLE\nCROSS x\n"] {
+        assert!(rt; is_fault(&rt, &p, text, CertKind::CertEnd));
+    }
+    Ok(())
+}
+
+#[test]
+fn after_faults(rt: HostRuntime) -> Result<(), Fail> {
+    let p = program(rt.alloc())?;
+    for text in ["NOTCONVEX\nEND\n\n", "NOTCONVEX\nEND\nx"] {
+        assert!(rt; is_fault(&rt, &p, text, CertKind::CertAfter));
+    }
+    Ok(())
+}
+
+#[test]
+fn line_faults(rt: HostRuntime) -> Result<(), Fail> {
+    let p = program(rt.alloc())?;
+    for text in [
+        "INFEASIBLE\nFARKAS\nY c2  1\n",
+        "INFEASIBLE\nCROSS x\nCROSS x\n",
+        "OPTIMAL\nVALUE 1\nEND\n",
+        "INFEASIBLE\nFARKAS\nBOUND\n",
     ] {
-        let found = read(rt.alloc(), &p, text);
-        assert!(rt; is_fault(&found, line, kind), "{text}");
+        assert!(rt; is_fault(&rt, &p, text, CertKind::CertLine));
+    }
+    Ok(())
+}
+
+#[test]
+fn name_faults(rt: HostRuntime) -> Result<(), Fail> {
+    let p = program(rt.alloc())?;
+    for text in [
+        "INFEASIBLE\nFARKAS\nY x 1\n",
+        "INFEASIBLE\nBRANCH x 1\nCROSS c1\n",
+    ] {
+        assert!(rt; is_fault(&rt, &p, text, CertKind::CertName));
+    }
+    Ok(())
+}
+
+#[test]
+fn past_faults(rt: HostRuntime) -> Result<(), Fail> {
+    let p = program(rt.alloc())?;
+    for text in ["INFEASIBLE\nFARKAS\nY c1 170141183460469231731687303715884105728/2\n"] {
+        assert!(rt; is_fault(&rt, &p, text, CertKind::CertPast));
+    }
+    Ok(())
+}
+
+#[test]
+fn number_faults(rt: HostRuntime) -> Result<(), Fail> {
+    let p = program(rt.alloc())?;
+    for text in [
+        "INFEASIBLE\nFARKAS\nY c2 2/4\n",
+        "INFEASIBLE\nFARKAS\nY c2 -0\n",
+        "INFEASIBLE\nFARKAS\nY c2 007\n",
+        "INFEASIBLE\nFARKAS\nY c2 0\n",
+        "OPTIMAL\nVALUE 8\nSQUARE -1\n",
+        "INFEASIBLE\nBRANCH x 1\nBRANCH x 1/2\n",
+        "UNBOUNDED\nPOINT x 1\nRAY x 170141183460469231731687303715884105728/1\n",
+    ] {
+        assert!(rt; is_fault(&rt, &p, text, CertKind::CertNumber));
+    }
+    Ok(())
+}
+
+#[test]
+fn order_faults(rt: HostRuntime) -> Result<(), Fail> {
+    let p = program(rt.alloc())?;
+    for text in [
+        "UNBOUNDED\nPOINT y 2\nPOINT y 2\n",
+        "UNBOUNDED\nPOINT y 2\nPOINT x 2\n",
+    ] {
+        assert!(rt; is_fault(&rt, &p, text, CertKind::CertOrder));
     }
     Ok(())
 }
@@ -109,28 +155,50 @@ fn is_first(c: &Certificate) -> bool {
     }
 }
 
-#[test]
-fn first(rt: HostRuntime) -> Result<(), Fail> {
-    let p = program(rt.alloc())?;
-    let text = "OPTIMAL\nVALUE 8\nPOINT x 2\nPOINT y 3\nSQUARE 2\nCOEF x 1\nSQUARE 8\nCOEF y 1\nBOUND\nW x 2\nW y 3\nY c2 -4\nEND\n";
-    match read(rt.alloc(), &p, text) {
-        Ok(c) => assert!(rt; is_first(&c)),
-        Err(_) => panic!(rt; "refused"),
+fn is_read_as_first(rt: &HostRuntime, p: &Program, text: &str) -> bool {
+    if text.len() > LONGEST {
+        return false;
     }
-    Ok(())
+    match read_certificate(rt.alloc(), p, text.as_bytes(), 19) {
+        Ok(c) => is_first(&c),
+        Err(_) => false,
+    }
 }
 
 #[test]
-fn written(rt: HostRuntime) -> Result<(), Fail> {
+fn first(rt: HostRuntime) -> Result<(), Fail> {
     let p = program(rt.alloc())?;
-    let mut vector = Vector::filled(rt.alloc(), 1, Frac::whole(0))?;
-    vector.push(Frac::of_parts(-3, 2)?)?;
-    if vector.len() == p.columns() as usize {
-        let mut out = Vec::new(rt.alloc());
-        write_certificate(&p, &Certificate::NotConvex(vector), &mut out)?;
-        assert!(rt; out.as_slice() == b"NOTCONVEX\nVECTOR y -3/2\nEND\n".as_slice());
-    } else {
-        return Err(Fail::new("another length"));
+    let text =
+        "OPTIMAL\nVALUE 8\nPOINT x 2\nPOINT y 3\nSQUARE 2\nCOEF x 1\nSQUARE 8\nCOEF y 1\nBOUND\nW x 2\nW y 3\nY c2 -4\nEND\n";
+    assert!(rt; is_read_as_first(&rt, &p, text));
+    Ok(())
+}
+
+// Whether a text is read as a certificate with that very text.
+fn is_written_again(rt: &HostRuntime, p: &Program, text: &str) -> bool {
+    if text.len() > LONGEST {
+        return false;
+    }
+    match read_certificate(rt.alloc(), p, text.as_bytes(), 1) {
+        Ok(c) => {
+            let mut out = Vec::new(rt.alloc());
+            write_certificate(p, &c, &mut out).is_ok() && out.as_slice() == text.as_bytes()
+        }
+        Err(_) => false,
+    }
+}
+
+#[test]
+fn written_again(rt: HostRuntime) -> Result<(), Fail> {
+    let p = program(rt.alloc())?;
+    for text in [
+        "OPTIMAL\nVALUE 8\nPOINT x 2\nPOINT y 3\nSQUARE 2\nCOEF x 1\nSQUARE 8\nCOEF y 1\nBOUND\nW x 2\nW y 3\nY c2 -4\nEND\n",
+        "OPTIMAL\nVALUE -1\nPOINT x 1\nBRANCH x 1\nBOUND\nW x 1\nFARKAS\nY c1 -1\nEND\n",
+        "INFEASIBLE\nBRANCH x -3\nFARKAS\nY c1 1/2\nCROSS y\nEND\n",
+        "UNBOUNDED\nRAY x 1\nEND\n",
+        "NOTCONVEX\nVECTOR x 1\nVECTOR y -13/6\nEND\n",
+    ] {
+        assert!(rt; is_written_again(&rt, &p, text));
     }
     Ok(())
 }

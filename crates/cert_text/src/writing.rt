@@ -115,19 +115,12 @@ fn write_farkas(
 }
 
 /// Appends the lines of a node.
-fn write_node(
-    p: &Program,
-    node: &Node,
-    out: &mut Vec<u8>,
-    text: &mut String,
-) -> Result<(), Memory>
+fn write_node(p: &Program, node: &Node, out: &mut Vec<u8>, text: &mut String) -> Result<(), Memory>
     requires { FitsNode p.now node.now }
     ensures { Appends out.old.items out.new.items (lines_text (node_lines p.now node.now)) result }
 {
     match node {
-        Node::Branch(column, k) => {
-            put_branch(out, text, name_on(p, Axis::Columns, *column), *k)
-        }
+        Node::Branch(column, k) => { put_branch(out, text, name_on(p, Axis::Columns, *column), *k) }
         Node::Bound(w, y) => write_bound(p, w, y, out, text),
         Node::Farkas(y) => write_farkas(p, y, out, text),
         Node::Cross(column) => put_name(out, b"CROSS", name_on(p, Axis::Columns, *column)),
@@ -135,12 +128,7 @@ fn write_node(
 }
 
 /// Appends the lines of a tree.
-fn write_tree(
-    p: &Program,
-    tree: &Tree,
-    out: &mut Vec<u8>,
-    text: &mut String,
-) -> Result<(), Memory>
+fn write_tree(p: &Program, tree: &Tree, out: &mut Vec<u8>, text: &mut String) -> Result<(), Memory>
     requires { AllByRecursion (FitsNode p.now) tree.now }
     ensures { Appends out.old.items out.new.items (lines_text (flat_map (node_lines p.now) tree.now)) result }
 {

@@ -1,5 +1,5 @@
 -- What lines tell, one line after the other.
-use Rattle.std.proofs.Common.{◌≡◌, ℕ, suc, ◌+◌, Bool, true, false, cond, ◌&&◌, not, List, [], ◌∷◌, ◌++◌, length, Option, Some, None, refl, ap, ◌∙◌, arith}
+use Rattle.std.proofs.Common.{◌≡◌, ℕ, suc, ◌+◌, Bool, true, false, cond, ◌&&◌, not, List, [], ◌∷◌, ◌++◌, length, Option, None, refl, ap, ◌∙◌, arith}
 use Rattle.std.specs.Prelude.{option_to_list}
 use Rattle.mps_tokens.specs.FieldsOf.{fields_of}
 use Rattle.mps_tokens.specs.Cases.{named}
@@ -7,7 +7,7 @@ use Rattle.mps_tokens.specs.Words.{section_names}
 use Rattle.mps_tokens.specs.declared.words.Section.{Section}
 use Rattle.mps_tokens.specs.declared.words.Section.TheVariants as sections
 use Rattle.mps_grammar.specs.Lines.{Data, field, is_passed, is_indented, sections_by, data_after, data_by}
-use Rattle.mps_grammar.specs.Told.{Told, told_by, told_by_data}
+use Rattle.mps_grammar.specs.Told.{told_by, told_by_data}
 use Rattle.mps_grammar.specs.After.{told_more, told_within, told_header, counted, told_after}
 
 -- a data line more

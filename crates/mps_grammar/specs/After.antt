@@ -1,5 +1,5 @@
 -- What one line more tells, by what the lines before it told.
-use Rattle.std.specs.Prelude.{ℕ, ◌+◌, Bool, List, [], ◌∷◌, ◌++◌, Option, option_to_list, if◌then◌else◌}
+use Rattle.std.specs.Prelude.{ℕ, ◌+◌, List, [], ◌∷◌, ◌++◌, Option, option_to_list, if◌then◌else◌}
 use Rattle.mps_tokens.specs.FieldsOf.{fields_of}
 use Rattle.mps_tokens.specs.Cases.{named}
 use Rattle.mps_tokens.specs.Words.{section_names}

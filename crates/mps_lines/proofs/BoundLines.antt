@@ -1,24 +1,21 @@
 -- Lines of BOUNDS.
-use Rattle.std.proofs.Common.{◌≡◌, ℕ, ◌+◌, ◌<◌, Bool, true, false, cond, ◌||◌, List, [], ◌∷◌, ◌++◌, length, Option, Some, None, Result, Ok, Err, refl, sym, ap, subst, ◌∙◌, inl, inr, arith}
-use Rattle.std.proofs.lemmas.Bool.{cases_Bool}
+use Rattle.std.proofs.Common.{◌≡◌, ℕ, ◌<◌, Bool, true, false, ◌||◌, List, [], ◌∷◌, ◌++◌, length, Some, Ok, refl, sym, ap, subst, ◌∙◌}
 use Rattle.rational.specs.Rational.{ℚ}
 use Rattle.program_law.specs.Places.{place_of}
 use Rattle.mps_tokens.specs.declared.words.BoundKind.{BoundKind}
 use Rattle.mps_grammar.specs.declared.kinds.FaultKind.{FaultKind}
 use Rattle.mps_grammar.specs.declared.kinds.FaultKind.TheVariants as kinds
 use Rattle.mps_grammar.specs.Fields.{Bounded}
-use Rattle.mps_grammar.specs.Told.{BoundTelling, names_of, is_used, first_named, bound_value, with_bound}
+use Rattle.mps_grammar.specs.Told.{names_of, is_used, bound_value, with_bound}
 use Rattle.mps_grammar.specs.Faults.{Tests, first_of, is_long, of_number, is_no_number, is_past, bounded_tests}
 use Rattle.mps_lines.specs.declared.bounds.Bound.{Bound}
 use Rattle.mps_lines.specs.declared.bounds.Bounds.{Bounds}
 use Rattle.mps_lines.specs.declared.notes.Notes.{Notes}
-use Rattle.mps_lines.specs.declared.stop.LineStop.{LineStop}
 use Rattle.mps_lines.specs.Told.{bound_telling, bounds_of, AreBounds, text_in}
 use Rattle.mps_lines.specs.Notes.{told_in, IsSound}
 use Rattle.mps_lines.specs.Steps.{ReadsBound, BoundDone, TakesBounded}
 use Rattle.mps_lines.proofs.PlaceLemmas.{place_below}
-use Rattle.mps_lines.proofs.RowLemmas.{names_length, all_push}
-use Rattle.mps_lines.proofs.Tests.{first_front, first_rest}
+use Rattle.mps_lines.proofs.RowLemmas.{all_push}
 use Rattle.mps_lines.proofs.Tellings.{name_from_place, bounds_push}
 use Rattle.mps_lines.proofs.Sound.{keeps_bounds}
 

@@ -1,5 +1,5 @@
 -- A header or a data line by its fields.
-use Rattle.std.proofs.Common.{◌≡◌, ℕ, ◌<◌, Bool, true, false, cond, not, ◌&&◌, ◌||◌, eqb, List, [], ◌∷◌, take, length, Option, Some, None, Result, Ok, Err, refl, sym, ap, subst, ◌∙◌, inl, inr, arith}
+use Rattle.std.proofs.Common.{◌≡◌, ℕ, ◌<◌, Bool, true, false, cond, not, ◌&&◌, ◌||◌, eqb, List, [], ◌∷◌, take, length, None, Result, Ok, Err, refl, sym, ap, subst, ◌∙◌, inl, inr, arith}
 use Rattle.std.specs.Prelude.{filter}
 use Rattle.std.specs.List.{slice_split, onto_first}
 use Rattle.std.proofs.lemmas.Bool.{cases_Bool, eqb-true}
@@ -7,12 +7,10 @@ use Rattle.std.proofs.lemmas.Bool.Decides.{nat_tests}
 use Rattle.mps_tokens.specs.FieldsOf.{is_blank, is_filled, fields_of}
 use Rattle.mps_tokens.specs.Cases.{named}
 use Rattle.mps_tokens.specs.Words.{section_names}
-use Rattle.mps_tokens.specs.declared.words.Section.{Section}
-use Rattle.mps_grammar.specs.declared.kinds.FaultKind.{FaultKind}
-use Rattle.mps_grammar.specs.Lines.{field, is_comment, is_indented, section_in}
+use Rattle.mps_grammar.specs.Lines.{field, is_comment, is_indented}
 use Rattle.mps_grammar.specs.Told.{Told}
 use Rattle.mps_grammar.specs.After.{told_within, told_header, told_content}
-use Rattle.mps_grammar.specs.Faults.{Tests, first_of, section_tests, header_tests, content_tests}
+use Rattle.mps_grammar.specs.Faults.{first_of, section_tests, header_tests, content_tests}
 use Rattle.mps_grammar.specs.Verdict.{is_end, ends}
 use Rattle.mps_lines.specs.declared.notes.Notes.{Notes}
 use Rattle.mps_lines.specs.declared.stop.LineStop.{LineStop}

@@ -1,6 +1,6 @@
 -- Lines of COLUMNS.
-use Rattle.std.proofs.Common.{◌≡◌, ℕ, suc, ◌+◌, ◌<◌, ◌≤◌, Bool, true, false, cond, ◌&&◌, List, [], ◌∷◌, ◌++◌, length, Option, Some, None, Result, Ok, Err, refl, sym, ap, subst, ◌∙◌, arith}
-use Rattle.std.specs.Prelude.{is_none, nat_le}
+use Rattle.std.proofs.Common.{◌≡◌, ℕ, ◌+◌, ◌<◌, Bool, true, false, List, [], ◌∷◌, ◌++◌, length, Option, Some, None, Result, Ok, Err, refl, sym, ap, subst, ◌∙◌, arith}
+use Rattle.std.specs.Prelude.{nat_le}
 use Rattle.std.proofs.lemmas.Bool.Decides.{nat_tests}
 use Rattle.program_law.specs.Places.{place_of}
 use Rattle.program_law.specs.Program.{IsName}
@@ -15,21 +15,18 @@ use Rattle.mps_grammar.specs.After.{told_more}
 use Rattle.mps_grammar.specs.Faults.{first_of, gives_twice, has_long, data_tests}
 use Rattle.mps_lines.specs.declared.numbers.Entry.{Entry}
 use Rattle.mps_lines.specs.declared.pairs.Item.{Item}
-use Rattle.mps_lines.specs.declared.pairs.Items.{Items}
-use Rattle.mps_lines.specs.declared.entries.Places.{Places}
 use Rattle.mps_lines.specs.declared.notes.Notes.{Notes}
 use Rattle.mps_lines.specs.declared.stop.LineStop.{LineStop}
 use Rattle.mps_lines.specs.declared.stop.LineStop.TheVariants as stops
-use Rattle.mps_lines.specs.Names.{name_at}
 use Rattle.mps_lines.specs.Entries.{twice_at}
 use Rattle.mps_lines.specs.Resolved.{pair_tests, AreItems}
-use Rattle.mps_lines.specs.Placed.{row_place, second_place, row_places_of, items_entries}
-use Rattle.mps_lines.specs.Told.{tellings_of, AreEntries}
+use Rattle.mps_lines.specs.Placed.{row_place, second_place, items_entries}
+use Rattle.mps_lines.specs.Told.{tellings_of}
 use Rattle.mps_lines.specs.Notes.{told_in, IsSound}
 use Rattle.mps_lines.specs.Steps.{Holds, is_counted, item_tests, is_too_many, with_name, PlacesColumn, TakesItems, TakesData}
 use Rattle.mps_lines.proofs.PlaceLemmas.{place_pushed}
 use Rattle.mps_lines.proofs.RowLemmas.{names_push, names_length}
-use Rattle.mps_lines.proofs.Tests.{first_front, first_rest}
+use Rattle.mps_lines.proofs.TestChains.{first_front, first_rest}
 use Rattle.mps_lines.proofs.Twice.{twice_same}
 use Rattle.mps_lines.proofs.Puts.{place_for, put_done}
 use Rattle.mps_lines.proofs.Sound.{keeps_columns, keeps_entries}

@@ -1,6 +1,5 @@
 -- The lines that were read of a text, and those that follow.
 use Rattle.std.proofs.Common.{◌≡◌, ℕ, suc, ◌+◌, ◌<◌, ◌≤◌, min, Bool, true, false, cond, List, [], ◌∷◌, length, drop, Option, Some, None, Result, Ok, Err, refl, sym, ap, subst, ◌∙◌, arith, length-drop}
-use Rattle.std.specs.Prelude.{⊤}
 use Rattle.std.specs.List.{position_or_len}
 use Rattle.std.proofs.lemmas.List.{drop_all, drop-drop, drop_min}
 use Rattle.mps_tokens.specs.Lines.{is_line_feed, raw_lines, without_return}
@@ -10,7 +9,7 @@ use Rattle.mps_grammar.specs.declared.kinds.FaultKind.TheVariants as kinds
 use Rattle.mps_grammar.specs.Lines.{is_passed}
 use Rattle.mps_grammar.specs.Told.{Told, told_by}
 use Rattle.mps_grammar.specs.After.{told_after}
-use Rattle.mps_grammar.specs.Faults.{first_of, line_tests, line_fault}
+use Rattle.mps_grammar.specs.Faults.{line_fault}
 use Rattle.mps_grammar.specs.Verdict.{Fault, ends, unless, verdict, verdict_of}
 use Rattle.mps_grammar.specs.Reading.{Spot, told_of, told_verdict, first_shown, rest_of}
 use Rattle.mps_grammar.proofs.After.{told_line}
@@ -18,9 +17,8 @@ use Rattle.mps_lines.specs.declared.lines.Whole.{Whole}
 use Rattle.mps_lines.specs.declared.notes.Notes.{Notes}
 use Rattle.mps_lines.specs.declared.stop.LineStop.{LineStop}
 use Rattle.mps_lines.specs.declared.stop.LineStop.TheVariants as line_stops
-use Rattle.mps_lines.specs.declared.stop.Place.{Place}
 use Rattle.mps_lines.specs.Notes.{told_in, IsSound}
-use Rattle.mps_lines.specs.Reading.{spot_of, raw_at, IsWhole, read_stop, TellsNotes}
+use Rattle.mps_lines.specs.Reading.{raw_at, IsWhole, read_stop, TellsNotes}
 use Rattle.mps_lines.specs.Steps.{Holds, TakesLine}
 use Rattle.mps_lines.proofs.WholeLines.{raw_length}
 
@@ -135,9 +133,9 @@ module _ (text : List ℕ) (at : ℕ) (n : Notes) (read : IsRead text at n) wher
 
 -- ---- the answer
 
-pub fails : (text : List ℕ) (line : ℕ) (stop : LineStop) → ((kind : FaultKind) → stop ≡ line_stops.Fault kind → told_of text ≡ Err (line, kind)) → TellsNotes (told_of text) (Err (read_stop line stop))
-fails text line line_stops.Memory h = tt
-fails text line (line_stops.Fault kind) h = h kind refl
+pub fails : (text : List ℕ) (number : ℕ) (stop : LineStop) → ((kind : FaultKind) → stop ≡ line_stops.Fault kind → told_of text ≡ Err (number, kind)) → TellsNotes (told_of text) (Err (read_stop number stop))
+fails text number line_stops.Memory h = tt
+fails text number (line_stops.Fault kind) h = h kind refl
 
 -- ---- the first line that is neither blank nor a comment
 

@@ -11,7 +11,7 @@ pub mod Puts
 pub mod Sound
 pub mod EntryLines
 pub mod Words
-pub mod Tests
+pub mod TestChains
 pub mod SideLines
 pub mod PairLines
 pub mod WholeLines

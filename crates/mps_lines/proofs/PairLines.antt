@@ -1,5 +1,5 @@
 -- Lines of quadratic sections.
-use Rattle.std.proofs.Common.{◌≡◌, ℕ, ◌+◌, ◌<◌, Bool, true, false, cond, eqb, ◌&&◌, ◌||◌, List, [], ◌∷◌, ◌++◌, length, Option, Some, None, Result, Ok, Err, refl, sym, ap, subst, ◌∙◌, arith}
+use Rattle.std.proofs.Common.{◌≡◌, ℕ, ◌+◌, Bool, true, false, ◌&&◌, ◌||◌, List, [], ◌∷◌, ◌++◌, Option, Some, None, Result, Ok, Err, refl, sym, ap, subst, ◌∙◌}
 use Rattle.std.specs.Str.{bytes_eq}
 use Rattle.rational.specs.Rational.{ℚ}
 use Rattle.program_law.specs.Places.{place_of}
@@ -8,27 +8,26 @@ use Rattle.mps_tokens.specs.declared.words.Section.{Section}
 use Rattle.mps_tokens.specs.declared.words.Section.TheVariants as sections
 use Rattle.mps_grammar.specs.declared.kinds.FaultKind.{FaultKind}
 use Rattle.mps_grammar.specs.declared.kinds.FaultKind.TheVariants as kinds
-use Rattle.mps_grammar.specs.Fields.{Pair, Entries, entries_in}
+use Rattle.mps_grammar.specs.Fields.{Pair, entries_in}
 use Rattle.mps_grammar.specs.Told.{Told, Telling, names_of, is_told, is_quadratic, quadratic_number, with_pairs}
 use Rattle.mps_grammar.specs.Programs.{is_quadobj}
 use Rattle.mps_grammar.specs.After.{told_more}
-use Rattle.mps_grammar.specs.Faults.{Tests, first_of, gives_twice, has_long, has_unknown, any_pair, is_given_pair, data_tests}
+use Rattle.mps_grammar.specs.Faults.{Tests, first_of, gives_twice, has_long, any_pair, is_given_pair, data_tests}
 use Rattle.mps_lines.specs.declared.numbers.Entry.{Entry}
 use Rattle.mps_lines.specs.declared.pairs.Item.{Item}
 use Rattle.mps_lines.specs.declared.pairs.Items.{Items}
-use Rattle.mps_lines.specs.declared.entries.Places.{Places}
 use Rattle.mps_lines.specs.declared.notes.Notes.{Notes}
 use Rattle.mps_lines.specs.declared.stop.LineStop.{LineStop}
 use Rattle.mps_lines.specs.declared.stop.LineStop.TheVariants as stops
 use Rattle.mps_lines.specs.Names.{Differ, name_at}
-use Rattle.mps_lines.specs.Entries.{is_marked, pair_given, second_twice, pair_twice}
+use Rattle.mps_lines.specs.Entries.{pair_given, pair_twice}
 use Rattle.mps_lines.specs.Resolved.{number_in, pair_tests, IsItem, AreItems, Resolves}
 use Rattle.mps_lines.specs.Placed.{second_column, items_entries}
 use Rattle.mps_lines.specs.Told.{tellings_of, AreEntries}
 use Rattle.mps_lines.specs.Notes.{told_in, IsSound}
 use Rattle.mps_lines.specs.Steps.{Holds, is_half, TakesPairItems, TakesData}
 use Rattle.mps_lines.proofs.NameLemmas.{same_test}
-use Rattle.mps_lines.proofs.Tests.{first_front, first_rest}
+use Rattle.mps_lines.proofs.TestChains.{first_front, first_rest}
 use Rattle.mps_lines.proofs.Tellings.{name_from_place, eqb_comm, told_marked}
 use Rattle.mps_lines.proofs.Puts.{place_for, put_done}
 use Rattle.mps_lines.proofs.Sound.{keeps_pairs}

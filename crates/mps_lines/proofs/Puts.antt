@@ -1,20 +1,18 @@
 -- The entries of a line's items, and what they tell.
-use Rattle.std.proofs.Common.{◌≡◌, ℕ, ◌<◌, List, [], ◌∷◌, ◌++◌, length, Option, Some, None, Result, Ok, refl, sym, ap, subst, ◌∙◌, append_assoc}
+use Rattle.std.proofs.Common.{◌≡◌, ℕ, ◌<◌, List, [], ◌∷◌, ◌++◌, length, Option, Some, None, Result, refl, sym, ap, subst, ◌∙◌, append_assoc}
 use Rattle.std.specs.Prelude.{IfSome}
 use Rattle.rational.specs.Rational.{ℚ}
 use Rattle.program_law.specs.Places.{place_of}
 use Rattle.mps_tokens.specs.declared.fault.NumberFault.{NumberFault}
-use Rattle.mps_tokens.specs.declared.words.RowKind.{RowKind}
 use Rattle.mps_grammar.specs.declared.kinds.FaultKind.{FaultKind}
 use Rattle.mps_grammar.specs.Fields.{Pair}
-use Rattle.mps_grammar.specs.Told.{Telling, value_or_zero, with_pairs, names_of, used_names}
+use Rattle.mps_grammar.specs.Told.{Telling, value_or_zero, with_pairs, names_of}
 use Rattle.mps_lines.specs.declared.numbers.Entry.{Entry}
 use Rattle.mps_lines.specs.declared.pairs.Item.{Item}
 use Rattle.mps_lines.specs.declared.pairs.Items.{Items}
-use Rattle.mps_lines.specs.declared.entries.Places.{Places}
-use Rattle.mps_lines.specs.Names.{Differ, name_at}
+use Rattle.mps_lines.specs.Names.{name_at}
 use Rattle.mps_lines.specs.Resolved.{IsItem, AreItems, Resolves}
-use Rattle.mps_lines.specs.Placed.{entry_at, second_entry, items_entries}
+use Rattle.mps_lines.specs.Placed.{entry_at, second_entry}
 use Rattle.mps_lines.specs.Told.{telling_of, tellings_of, IsEntry, AreEntries}
 use Rattle.mps_lines.proofs.PlaceLemmas.{place_below}
 use Rattle.mps_lines.proofs.RowLemmas.{all_push, names_length}

@@ -1,20 +1,19 @@
 -- The places of rows among the objective and the rows of the program, when a row more is given.
-use Rattle.std.proofs.Common.{◌≡◌, ℕ, zero, suc, ◌+◌, ◌<◌, ◌≤◌, Bool, true, false, cond, ◌⊎◌, List, [], ◌∷◌, ◌++◌, map, length, Option, Some, None, refl, sym, ap, ◌∙◌, inl, inr, arith, length-append}
-use Rattle.std.specs.Prelude.{slice_get, is_some, unwrap_or, filter}
+use Rattle.std.proofs.Common.{◌≡◌, ℕ, zero, suc, ◌+◌, ◌≤◌, Bool, true, false, cond, ◌⊎◌, List, [], ◌∷◌, ◌++◌, length, Option, Some, None, refl, sym, ap, ◌∙◌, inl, inr, arith, length-append}
+use Rattle.std.specs.Prelude.{slice_get, is_some, unwrap_or}
 use Rattle.std.specs.List.{AllByRecursion}
 use Rattle.std.specs.Option.{option_map}
 use Rattle.std.specs.Str.{bytes_eq}
-use Rattle.std.proofs.lemmas.List.{map-append}
 use Rattle.std.proofs.lemmas.List.Elements.{filter-append}
 use Rattle.mps_tokens.specs.declared.words.RowKind.{RowKind}
 use Rattle.program_law.specs.Places.{place_of}
-use Rattle.program_law.specs.Program.{IsName, marker}
+use Rattle.program_law.specs.Program.{IsName}
 use Rattle.mps_grammar.specs.Told.{names_of, binds, program_rows, objective_in, used_names}
 use Rattle.mps_lines.specs.declared.rows.RowUse.{RowUse}
-use Rattle.mps_lines.specs.Names.{Differ, AreNames, name_at}
+use Rattle.mps_lines.specs.Names.{AreNames}
 use Rattle.mps_lines.specs.Rows.{with_kind, kinds_of, ArePlaced}
-use Rattle.mps_lines.proofs.PlaceLemmas.{place_stays, place_pushed}
-use Rattle.mps_lines.proofs.NameLemmas.{eq_self, eq_from, ne_from, ne_sym, absent_parts, absent_head, absent_push, Differ-push}
+use Rattle.mps_lines.proofs.PlaceLemmas.{place_pushed}
+use Rattle.mps_lines.proofs.NameLemmas.{eq_self, ne_from, ne_sym, absent_parts, absent_head}
 
 abbrev Kinds : Type 0
 Kinds = List (List ℕ × RowKind)

@@ -1,17 +1,16 @@
 -- Lines of ROWS.
-use Rattle.std.proofs.Common.{◌≡◌, ℕ, zero, suc, ◌+◌, ◌<◌, ◌≤◌, Bool, true, false, ◌&&◌, List, [], ◌∷◌, ◌++◌, length, Option, Some, None, Result, Ok, Err, refl, sym, ap, subst, ◌∙◌, arith}
+use Rattle.std.proofs.Common.{◌≡◌, ℕ, zero, suc, ◌<◌, false, ◌&&◌, List, [], ◌∷◌, ◌++◌, length, Option, Some, None, Ok, refl, sym, subst, arith}
 use Rattle.std.specs.Prelude.{is_some, nat_le}
 use Rattle.std.specs.Str.{bytes_eq}
-use Rattle.std.proofs.lemmas.Bool.Decides.{nat_tests}
 use Rattle.program_law.specs.Places.{place_of}
-use Rattle.program_law.specs.Program.{IsName, marker}
+use Rattle.program_law.specs.Program.{marker}
 use Rattle.mps_tokens.specs.declared.words.RowKind.{RowKind}
-use Rattle.mps_grammar.specs.Told.{Told, names_of, binds, program_rows, row_in}
+use Rattle.mps_grammar.specs.Told.{names_of, binds, program_rows}
 use Rattle.mps_grammar.specs.Faults.{is_long}
 use Rattle.mps_lines.specs.declared.notes.Notes.{Notes}
 use Rattle.mps_lines.specs.Names.{AreNames, name_at}
 use Rattle.mps_lines.specs.Notes.{told_in, IsSound}
-use Rattle.mps_lines.specs.Steps.{Holds, TakesNamed, TakesData}
+use Rattle.mps_lines.specs.Steps.{Holds, TakesNamed}
 use Rattle.mps_lines.proofs.RowLemmas.{name_filled}
 use Rattle.mps_lines.proofs.Sound.{keeps_rows}
 

@@ -1,9 +1,7 @@
 -- A row by its number.
-use Rattle.std.proofs.Common.{◌≡◌, ℕ, zero, suc, ◌+◌, ◌<◌, ◌≤◌, List, [], ◌∷◌, length, Option, Some, None, refl, sym, ap, ◌∙◌, arith}
-use Rattle.std.specs.Prelude.{slice_get, IfSome, Bool, true, false}
-use Rattle.mps_tokens.specs.declared.words.RowKind.{RowKind}
+use Rattle.std.proofs.Common.{◌≡◌, ℕ, zero, suc, ◌<◌, ◌≤◌, List, [], ◌∷◌, length, Option, Some, None, refl, sym, ap, ◌∙◌, arith}
+use Rattle.std.specs.Prelude.{slice_get, IfSome, true, false}
 use Rattle.program_law.specs.Places.{place_of}
-use Rattle.program_law.specs.Program.{marker}
 use Rattle.mps_grammar.specs.Told.{names_of, program_rows, used_names}
 use Rattle.mps_lines.specs.declared.rows.RowUse.{RowUse}
 use Rattle.mps_lines.specs.declared.rows.Rows.TheInside.{Inside}

@@ -1,31 +1,25 @@
 -- Lines of RHS and RANGES.
-use Rattle.std.proofs.Common.{◌≡◌, ℕ, ◌+◌, Bool, true, false, cond, ◌&&◌, List, [], ◌∷◌, ◌++◌, length, Option, Some, None, Result, Ok, Err, refl, sym, ap, subst, ◌∙◌}
-use Rattle.std.specs.Prelude.{⊤}
-use Rattle.program_law.specs.Places.{place_of}
+use Rattle.std.proofs.Common.{◌≡◌, ℕ, ◌+◌, Bool, true, false, ◌&&◌, List, [], ◌∷◌, ◌++◌, Option, Some, None, Result, Ok, Err, refl, sym, ap, subst, ◌∙◌}
 use Rattle.mps_tokens.specs.declared.words.RowKind.{RowKind}
-use Rattle.mps_tokens.specs.declared.words.Section.{Section}
 use Rattle.mps_tokens.specs.declared.words.Section.TheVariants as sections
 use Rattle.mps_tokens.specs.Numbers.{number_of}
 use Rattle.mps_grammar.specs.declared.kinds.FaultKind.{FaultKind}
 use Rattle.mps_grammar.specs.declared.kinds.FaultKind.TheVariants as kinds
 use Rattle.mps_grammar.specs.Fields.{Pair, Entries, sides_in}
-use Rattle.mps_grammar.specs.Told.{Told, Telling, names_of, used_names, is_told, is_used, first_named, with_pairs, with_sides}
-use Rattle.mps_grammar.specs.After.{told_more}
-use Rattle.mps_grammar.specs.Faults.{Tests, first_of, gives_twice, has_long, side_tests, data_tests}
-use Rattle.mps_lines.specs.declared.numbers.Entry.{Entry}
+use Rattle.mps_grammar.specs.Told.{Told, names_of, used_names, is_told, is_used, first_named}
+use Rattle.mps_grammar.specs.Faults.{Tests, first_of, gives_twice, has_long, side_tests}
 use Rattle.mps_lines.specs.declared.pairs.Item.{Item}
 use Rattle.mps_lines.specs.declared.sides.Sides.{Sides}
 use Rattle.mps_lines.specs.declared.notes.Notes.{Notes}
 use Rattle.mps_lines.specs.declared.stop.LineStop.{LineStop}
 use Rattle.mps_lines.specs.declared.stop.LineStop.TheVariants as stops
-use Rattle.mps_lines.specs.Names.{Differ}
 use Rattle.mps_lines.specs.Entries.{twice_at}
 use Rattle.mps_lines.specs.Resolved.{pair_tests, AreItems}
 use Rattle.mps_lines.specs.Placed.{row_place, second_place, items_entries}
 use Rattle.mps_lines.specs.Told.{tellings_of, AreEntries, text_in}
 use Rattle.mps_lines.specs.Notes.{no_column, told_in, IsSound}
-use Rattle.mps_lines.specs.Steps.{Judged, Holds, is_counted, SidesDone, TakesSideItems, sides_section, TakesData}
-use Rattle.mps_lines.proofs.Tests.{first_front, first_rest}
+use Rattle.mps_lines.specs.Steps.{Judged, is_counted, SidesDone, TakesSideItems, TakesData}
+use Rattle.mps_lines.proofs.TestChains.{first_front, first_rest}
 use Rattle.mps_lines.proofs.Twice.{twice_same}
 use Rattle.mps_lines.proofs.Puts.{put_done}
 use Rattle.mps_lines.proofs.EntryLines.{second_is}

@@ -6,10 +6,10 @@ use Rattle.mps_tokens.specs.declared.words.Section.TheVariants as sections
 use Rattle.mps_tokens.specs.declared.words.RowKind.{RowKind}
 use Rattle.mps_tokens.specs.declared.words.BoundKind.{BoundKind}
 use Rattle.mps_grammar.specs.Lines.{field}
-use Rattle.mps_grammar.specs.Fields.{Bounded, row_kind_in, has_number, bound_kind_in, bounded_in, bound_by_kind}
+use Rattle.mps_grammar.specs.Fields.{row_kind_in, has_number, bound_kind_in, bounded_in, bound_by_kind}
 use Rattle.mps_grammar.specs.Told.{Told, first_named, bound_set_of, with_bound}
 use Rattle.mps_grammar.specs.After.{told_more, told_within}
-use Rattle.mps_grammar.specs.Faults.{Tests, row_tests, bound_tests, data_tests, section_tests}
+use Rattle.mps_grammar.specs.Faults.{row_tests, bound_tests, data_tests, section_tests}
 
 -- a line of more fields has no form, and neither has one of six
 module _ (told : Told) (a b c d e f g : List ℕ) (rest : List (List ℕ)) where

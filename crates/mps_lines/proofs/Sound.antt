@@ -1,6 +1,5 @@
 -- What is kept stays sound, and what each change of it tells.
-use Rattle.std.proofs.Common.{◌≡◌, ℕ, ◌+◌, ◌<◌, ◌≤◌, Bool, true, false, List, [], ◌∷◌, ◌++◌, length, Option, Some, None, Result, refl, sym, ap, subst, ◌∙◌, arith, length-append}
-use Rattle.std.specs.Prelude.{is_some}
+use Rattle.std.proofs.Common.{◌≡◌, ℕ, ◌<◌, Bool, false, List, [], ◌∷◌, ◌++◌, length, Option, Some, None, refl, sym, ap, subst, ◌∙◌, arith, length-append}
 use Rattle.std.specs.Global.{Vec}
 use Rattle.std.specs.Str.{bytes_eq}
 use Rattle.program_law.specs.Places.{place_of}
@@ -12,12 +11,12 @@ use Rattle.mps_lines.specs.declared.numbers.Entry.{Entry}
 use Rattle.mps_lines.specs.declared.bounds.Bounds.{Bounds}
 use Rattle.mps_lines.specs.declared.sides.Sides.{Sides}
 use Rattle.mps_lines.specs.declared.notes.Notes.{Notes}
-use Rattle.mps_lines.specs.Names.{Differ, AreNames, name_at}
+use Rattle.mps_lines.specs.Names.{name_at}
 use Rattle.mps_lines.specs.Told.{tellings_of, AreEntries, bounds_of, AreBounds, text_in}
 use Rattle.mps_lines.specs.Notes.{no_column, told_in, IsSound}
 use Rattle.mps_lines.specs.Steps.{Holds, with_name}
 use Rattle.mps_lines.proofs.NameLemmas.{Differ-push}
-use Rattle.mps_lines.proofs.RowLemmas.{names_push, names_length, all_push, name_filled, used_kept}
+use Rattle.mps_lines.proofs.RowLemmas.{names_push, all_push, used_kept}
 use Rattle.mps_lines.proofs.Tellings.{absent_name_at, tellings_columns, tellings_rows, tellings_grow, entries_grow, entries_row, pairs_grow, bounds_grow, bounds_same}
 
 -- ---- changes that nothing else stands on

@@ -1,19 +1,17 @@
 -- What entries tell, when there is one more or when there are more names.
-use Rattle.std.proofs.Common.{◌≡◌, ℕ, zero, suc, ◌+◌, ◌<◌, ◌≤◌, Bool, true, false, cond, eqb, ◌&&◌, ◌||◌, List, [], ◌∷◌, ◌++◌, map, reverse, length, Option, Some, None, Result, Ok, Err, refl, sym, ap, ◌∙◌, arith, length-append}
+use Rattle.std.proofs.Common.{◌≡◌, ℕ, zero, suc, ◌<◌, Bool, true, false, eqb, ◌||◌, List, [], ◌∷◌, ◌++◌, map, reverse, length, Option, Some, None, refl, sym, ap, ◌∙◌, arith, length-append}
 use Rattle.std.specs.List.{list_any, AllByRecursion}
 use Rattle.std.specs.Str.{bytes_eq}
 use Rattle.std.proofs.lemmas.List.{map-append, reverse-append, get_or_append_left}
 use Rattle.std.proofs.lemmas.List.Folds.{list_any-append}
 use Rattle.std.proofs.lemmas.Bool.Decides.{nat_tests}
 use Rattle.program_law.specs.Places.{place_of}
-use Rattle.mps_tokens.specs.declared.words.RowKind.{RowKind}
-use Rattle.mps_grammar.specs.Told.{Telling, BoundTelling, is_at, is_told, names_of, used_names}
+use Rattle.mps_grammar.specs.Told.{is_at, is_told}
 use Rattle.mps_lines.specs.declared.numbers.Entry.{Entry}
 use Rattle.mps_lines.specs.declared.bounds.Bound.{Bound}
-use Rattle.mps_lines.specs.Names.{Differ, AreNames, name_at}
+use Rattle.mps_lines.specs.Names.{Differ, name_at}
 use Rattle.mps_lines.specs.Entries.{is_place, marks_at, is_marked}
 use Rattle.mps_lines.specs.Told.{telling_of, tellings_of, IsEntry, AreEntries, bound_telling, bounds_of, AreBounds}
-use Rattle.mps_lines.proofs.PlaceLemmas.{place_below}
 use Rattle.mps_lines.proofs.NameLemmas.{eq_self, ne_sym, same_test, absent_differs, absent_parts, place_first, place_behind}
 use Rattle.mps_lines.proofs.RowLemmas.{place_other}
 

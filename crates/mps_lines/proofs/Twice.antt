@@ -1,5 +1,5 @@
 -- Whether a line gives a number twice, by names and by the places of their entries.
-use Rattle.std.proofs.Common.{◌≡◌, ℕ, Bool, true, false, eqb, ◌&&◌, ◌||◌, List, [], ◌∷◌, length, Option, Some, None, Result, refl, sym, ap, ◌∙◌}
+use Rattle.std.proofs.Common.{◌≡◌, ℕ, Bool, true, false, ◌&&◌, ◌||◌, List, [], ◌∷◌, Option, Some, None, Result, refl, sym, ap, ◌∙◌}
 use Rattle.std.specs.Prelude.{is_some}
 use Rattle.std.specs.Str.{bytes_eq}
 use Rattle.rational.specs.Rational.{ℚ}
@@ -11,8 +11,7 @@ use Rattle.mps_grammar.specs.Told.{is_told, names_of, used_names}
 use Rattle.mps_grammar.specs.Faults.{gives_twice}
 use Rattle.mps_lines.specs.declared.numbers.Entry.{Entry}
 use Rattle.mps_lines.specs.declared.pairs.Item.{Item}
-use Rattle.mps_lines.specs.declared.pairs.Items.{Items}
-use Rattle.mps_lines.specs.Names.{Differ, name_at}
+use Rattle.mps_lines.specs.Names.{Differ}
 use Rattle.mps_lines.specs.Entries.{given_at, same_place, twice_at}
 use Rattle.mps_lines.specs.Placed.{row_place, second_place}
 use Rattle.mps_lines.specs.Resolved.{AreItems}

@@ -1,5 +1,5 @@
 -- What is kept of the lines, as what they tell.
-use Rattle.std.specs.Prelude.{◌≡◌, ℕ, ◌≤◌, List, [], ◌∷◌, length}
+use Rattle.std.specs.Prelude.{ℕ, ◌≤◌, List, [], ◌∷◌, length}
 use Rattle.mps_grammar.specs.Told.{Told, names_of, used_names}
 use Rattle.mps_lines.specs.declared.notes.Notes.{Notes}
 use Rattle.mps_lines.specs.Names.{Differ, AreNames}

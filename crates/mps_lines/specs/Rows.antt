@@ -1,12 +1,11 @@
 -- The rows as they are kept.
-use Rattle.std.specs.Prelude.{◌≡◌, ℕ, ◌≤◌, List, map, length, slice_get, Option, Some, None, is_some}
+use Rattle.std.specs.Prelude.{◌≡◌, ℕ, ◌≤◌, List, map, length, slice_get, Some, None, is_some}
 use Rattle.mps_tokens.specs.declared.words.RowKind.{RowKind}
 use Rattle.program_law.specs.Places.{place_of}
 use Rattle.program_law.specs.Program.{marker}
 use Rattle.mps_grammar.specs.Told.{names_of, program_rows, objective_in, used_names}
 use Rattle.mps_lines.specs.declared.rows.RowUse.{RowUse}
 use Rattle.mps_lines.specs.declared.rows.Rows.TheInside.{Inside}
-use Rattle.mps_lines.specs.Named.{things_of}
 use Rattle.mps_lines.specs.Names.{Differ, AreNames}
 
 abbrev pub with_kind : List ℕ × RowUse → List ℕ × RowKind

@@ -1,5 +1,5 @@
 -- What is read of a line, as its fields say it.
-use Rattle.std.specs.Prelude.{ℕ, List, [], ◌∷◌, Option, Some, None}
+use Rattle.std.specs.Prelude.{List, [], ◌∷◌, Option, Some, None}
 use Rattle.std.specs.Option.{option_map}
 use Rattle.mps_grammar.specs.Fields as fields
 use Rattle.mps_lines.specs.declared.fields.Pair.{Pair}

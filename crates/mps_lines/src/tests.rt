@@ -2,8 +2,14 @@ use super::*;
 use mps_grammar::FaultKind;
 use std::test::Fail;
 
+/// The most bytes of a text that is tried.
+const LONGEST: usize = 100_000;
+
 /// Whether a text has this fault in this line.
 fn has_fault(rt: &HostRuntime, text: &str, at: u32, what: FaultKind) -> bool {
+    if text.len() > LONGEST {
+        return false;
+    }
     match told(rt.alloc(), text.as_bytes()) {
         Err(ReadStop::Fault { line, kind }) => line == at && kind == what,
         _ => false,
@@ -101,6 +107,9 @@ fn a_file_as_tools_write_it(rt: HostRuntime) {
 
 /// Whether a text tells so many entries, right sides, ranges, bounds and pairs.
 fn tells(rt: &HostRuntime, text: &str, counts: [usize; 5]) -> bool {
+    if text.len() > LONGEST {
+        return false;
+    }
     match told(rt.alloc(), text.as_bytes()) {
         Ok((draft, _)) => {
             draft.entries().len() == counts[0]

@@ -20,6 +20,8 @@ pub fn read(alloc: Global, text: &[u8]) -> Result<(Program, Place), ReadStop>
     ensures place { IfOk result (λ r. IsPlaceIn text.now r.1) }
 {
     let (draft, place) = told(alloc, text)?;
-    let program = finish(alloc, &draft)?;
-    Ok((program, place))
+    match finish(alloc, &draft) {
+        Ok(program) => Ok((program, place)),
+        Err(stop) => Err(stop),
+    }
 }

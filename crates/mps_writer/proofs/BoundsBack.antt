@@ -28,14 +28,14 @@ use Rattle.mps_writer.specs.Canonical.{column_name, bounds_at, bound_line, low_l
 use Rattle.mps_writer.proofs.Numerals.{number_back}
 use Rattle.mps_writer.proofs.Erased.{bare}
 use Rattle.mps_writer.proofs.Fields.{AreWords, number_word}
-use Rattle.mps_writer.proofs.Lookups.{each_back, other_bytes, same_bytes}
+use Rattle.mps_writer.proofs.Lookups.{each_back, other_bytes, same_bytes, or_false, or_true}
 use Rattle.mps_writer.proofs.Names.{column_word, column_short, columns_differ}
 use Rattle.mps_writer.proofs.LineLemmas.{has_append}
 use Rattle.mps_writer.proofs.Runs.{Lead, lead_on, lead_to, lead_each, takes_data, takes_header}
 use Rattle.mps_writer.proofs.ColumnsBack.{no_text, no_past, is_known, known_column}
 use Rattle.mps_writer.proofs.EntriesBack.{entries_bare}
 use Rattle.mps_writer.proofs.SectionsBack.{section_read, nothing_each}
-use Rattle.mps_writer.proofs.SidesBack.{named_set, used_set, or_false, or_true}
+use Rattle.mps_writer.proofs.SidesBack.{named_set, used_set}
 use Rattle.mps_writer.proofs.Stages.{told_columns, entries_told, with_section, set_if, bound_telling, low_told, bound_told, bounds_told, behind_columns, first_sections}
 
 -- ---- what a column's bounds make

@@ -72,6 +72,9 @@ length-onto : (lines earlier : List (List ℕ)) → length (onto lines earlier) 
 length-onto [] earlier = omega arith
 length-onto (line ∷ lines) earlier = length-onto lines (line ∷ earlier) ∙ omega arith
 
+same_spot : (a b c d : ℕ) → a ≡ b → c ≡ d → ◌≡◌ {A = Spot} (a, c) (b, d)
+same_spot a b c d e f = rw (e, f) refl
+
 -- ---- the kind of a row
 
 named_cond : {A : Type 0} (b : Bool) (v : A) (o r : Option A) → or_other (if b then Some v else o) r ≡ (if b then Some v else or_other o r)
@@ -292,7 +295,7 @@ module _ (p : Program) where
       spot_is =
           let bytes : min (0 + bytes_of body + 6 + 1) (length (text_of_program p)) ≡ length (text_of_program p) = omega (arith, text_bytes) in
           let count : suc (length (onto body [])) + 1 ≡ length (program_lines p) + 1 = omega (arith, length-onto body [], line_count) in
-          ap (λ (n : ℕ). (n, suc (length (onto body [])) + 1)) bytes ∙ ap (λ (n : ℕ). (length (text_of_program p), n)) count
+          same_spot _ _ _ _ bytes count
 
       finished_is : (told : Told) (spot : Spot) (f : Option Fault) → f ≡ None → finished told spot f ≡ Ok (program_of told, spot)
       finished_is told spot f e = rw e refl

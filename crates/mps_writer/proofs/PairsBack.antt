@@ -1,23 +1,25 @@
 -- The quadratic part of a program's text is read back.
-use Rattle.std.specs.Prelude.{◌≡◌, ◌<◌, ◌≤◌, ◌+◌, ◌-◌, ◌&&◌, ◌||◌, ℕ, suc, Bool, true, false, List, [], ◌∷◌, ◌++◌, map, length, Option, Some, None, unwrap_or, codes, if◌then◌else◌}
+use Rattle.std.specs.Prelude.{◌≡◌, ◌<◌, ◌≤◌, ◌+◌, ◌-◌, ◌&&◌, ◌||◌, ℕ, suc, Bool, true, false, List, [], ◌∷◌, ◌++◌, map, length, Option, Some, None, is_some, unwrap_or, codes, if◌then◌else◌}
 use Rattle.std.proofs.Common.{arith, refl, sym, ap, subst, append_assoc, ◌∙◌, inl, inr}
 use Rattle.std.proofs.lemmas.Bool.{cases_lt}
-use Rattle.rational.specs.Rational.{ℚ, zero_ℚ}
+use Rattle.rational.specs.Rational.{ℚ, Fits, zero_ℚ}
+use Rattle.frac_core.specs.Parts.{max_part}
 use Rattle.frac_core.specs.Text.{text_of}
 use Rattle.program_law.specs.Tests.{is_zero}
 use Rattle.program_law.specs.Program.{Program, IsProgram}
 use Rattle.program_law.specs.Vectors.{at, row_at}
+use Rattle.program_law.specs.Places.{place_of}
 use Rattle.mps_tokens.specs.Numbers.{number_of}
 use Rattle.mps_tokens.specs.declared.words.Section.TheVariants as sections
-use Rattle.mps_grammar.specs.Told.{Told, Telling, BoundTelling, value_or_zero}
-use Rattle.mps_grammar.specs.Faults.{first_of, header_tests, data_tests}
+use Rattle.mps_grammar.specs.Told.{Told, Telling, BoundTelling, names_of, value_or_zero}
+use Rattle.mps_grammar.specs.Faults.{first_of, is_long, header_tests, data_tests}
 use Rattle.mps_grammar.specs.Programs.{value_at, or_other}
 use Rattle.mps_writer.specs.Lines.{each, number_line, has_lines}
 use Rattle.mps_writer.specs.Small.{HasSmallNumbers}
 use Rattle.mps_writer.specs.Canonical.{column_name, pair_lines, row_pair_lines, pairs_lines}
 use Rattle.mps_writer.proofs.Numerals.{number_back}
 use Rattle.mps_writer.proofs.Erased.{bare}
-use Rattle.mps_writer.proofs.Fields.{number_word}
+use Rattle.mps_writer.proofs.Fields.{IsWord, number_word}
 use Rattle.mps_writer.proofs.Lookups.{telling, none_told, value-append, value_nowhere, value_somewhere, value_elsewhere, value_here, column_differs, row_differs, or_none}
 use Rattle.mps_writer.proofs.Names.{column_word, column_short, columns_differ}
 use Rattle.mps_writer.proofs.Runs.{Lead, lead_to, lead_each, takes_data, takes_header}
@@ -25,7 +27,7 @@ use Rattle.mps_writer.proofs.ColumnsBack.{no_text, no_past, is_known, long_none,
 use Rattle.mps_writer.proofs.EntriesBack.{entries_bare, append_bare, each_bare, unless_zero_bare}
 use Rattle.mps_writer.proofs.SectionsBack.{section_read, nothing_each, nothing_of_zero}
 use Rattle.mps_writer.proofs.SidesBack.{five_none}
-use Rattle.mps_writer.proofs.Stages.{entries_told, with_section, pair_told, row_pairs_told, pairs_told, behind_columns, first_sections}
+use Rattle.mps_writer.proofs.Stages.{told_columns, entries_told, with_section, pair_told, row_pairs_told, pairs_told, behind_columns, first_sections}
 
 -- ---- what is found
 
@@ -124,6 +126,18 @@ no_pairs_told p e =
 pub all_pairs_bare : (p : Program) (n : ℕ) → map bare (pairs_told p n) ≡ pairs_told p n
 all_pairs_bare p n = each_bare n (λ j. row_pairs_told p j (length p.columns - j)) (λ j. each_bare (length p.columns - j) (λ d. pair_told p j (j + d)) (λ d. unless_zero_bare (column_name p j) (column_name p (j + d)) (at (row_at p.pairs j) (j + d))))
 
+-- an entry that is new in either order, with columns that are known
+record IsNextPair (p : Program) (ts : List Telling) (head name : List ℕ) (q : ℚ) : Type 0 where
+  head_word : IsWord head
+  name_word : IsWord name
+  short_head : is_long head ≡ false
+  short_name : is_long name ≡ false
+  known_head : is_some (place_of (names_of (told_columns p (length p.columns))) head) ≡ true
+  known_name : is_some (place_of (names_of (told_columns p (length p.columns))) name) ≡ true
+  small : Fits max_part q
+  new : value_at ts head name ≡ None
+  new_turned : value_at ts name head ≡ None
+
 either_none : (a b : Bool) → a ≡ false → b ≡ false → (a || (b || false)) ≡ false
 either_none a b e f = rw (e, f) refl
 
@@ -149,27 +163,42 @@ module _ (p : Program) (good : IsProgram p) (small : HasSmallNumbers p) (a : Boo
   unfolding told_before
   before_bare j d = append_bare (row_pairs_told p j d) (pairs_told p j) (each_bare d (λ e. pair_told p j (j + e)) (λ e. unless_zero_bare (column_name p j) (column_name p (j + e)) (at (row_at p.pairs j) (j + e)))) (all_pairs_bare p j)
 
+  -- one line with an entry of Q
+  pair_line_read : (ts : List Telling) → map bare ts ≡ ts → (head name : List ℕ) (q : ℚ) → IsNextPair p ts head name q
+      → Lead (stage ts) (number_line (head ∷ name ∷ []) q ∷ []) (stage (telling head name q ∷ ts))
+  unfolding stage
+  pair_line_read ts plain head name q h =
+      let read = number_back q h.small in
+      let none : first_of (data_tests (stage ts) sections.QuadObj (head ∷ name ∷ text_of q ∷ [])) ≡ None =
+      five_none _ _ _ _ _ (long_none _ _ h.short_head h.short_name) (either_none _ _ (is_known _ h.known_head) (is_known _ h.known_name)) (one_none _ (no_text _ q read)) (one_none _ (no_past _ q read))
+      (neither_twice _ _ (none_told ts head name h.new) (none_told ts name head h.new_turned)) in
+      let t = takes_data (stage ts) sections.QuadObj (with_section c sections.Bounds (with_section b sections.Ranges (with_section a sections.Rhs first_sections))) head (name ∷ text_of q ∷ []) refl (h.head_word, (h.name_word, (number_word q h.small, tt))) none in (
+        t.0,
+        t.1
+            ∙ plain_stage (telling head name (value_or_zero (number_of (text_of q))) ∷ map bare ts)
+            ∙ ap (λ (v : ℚ). stage (telling head name v ∷ map bare ts)) (ap value_or_zero read)
+            ∙ ap (λ (us : List Telling). stage (telling head name q ∷ us)) plain,
+      )
+
   pair_read : (j d : ℕ) → j + d < length p.columns → (zero_or_not : Bool)
       → Lead (stage (told_before j d)) (if zero_or_not then [] else number_line (column_name p j ∷ column_name p (j + d) ∷ []) (at (row_at p.pairs j) (j + d)) ∷ [])
       (stage ((if zero_or_not then [] else telling (column_name p j) (column_name p (j + d)) (at (row_at p.pairs j) (j + d)) ∷ []) ++ told_before j d))
-  unfolding stage told_before
+  unfolding told_before
   pair_read j d lt true = refl
   pair_read j d lt false =
       let jt : j < length p.columns = omega (arith, lt) in
-      let read = number_back (at (row_at p.pairs j) (j + d)) (small.pairs j (j + d)) in
-      let none : first_of (data_tests (stage (told_before j d)) sections.QuadObj (column_name p j ∷ column_name p (j + d) ∷ text_of (at (row_at p.pairs j) (j + d)) ∷ [])) ≡ None =
-      five_none _ _ _ _ _ (long_none _ _ (column_short p good j jt) (column_short p good (j + d) lt))
-      (either_none _ _ (is_known _ (known_column p good small (length p.columns) j jt)) (is_known _ (known_column p good small (length p.columns) (j + d) lt)))
-      (one_none _ (no_text _ (at (row_at p.pairs j) (j + d)) read)) (one_none _ (no_past _ (at (row_at p.pairs j) (j + d)) read))
-      (neither_twice _ _ (none_told (told_before j d) (column_name p j) (column_name p (j + d)) (before_pair p good j d lt)) (none_told (told_before j d) (column_name p (j + d)) (column_name p j) (before_turned p good j d lt))) in
-      let t = takes_data (stage (told_before j d)) sections.QuadObj (with_section c sections.Bounds (with_section b sections.Ranges (with_section a sections.Rhs first_sections)))
-      (column_name p j) (column_name p (j + d) ∷ text_of (at (row_at p.pairs j) (j + d)) ∷ []) refl (column_word p good j jt, (column_word p good (j + d) lt, (number_word (at (row_at p.pairs j) (j + d)) (small.pairs j (j + d)), tt))) none in (
-        t.0,
-        t.1
-            ∙ plain_stage (telling (column_name p j) (column_name p (j + d)) (value_or_zero (number_of (text_of (at (row_at p.pairs j) (j + d))))) ∷ map bare (told_before j d))
-            ∙ ap (λ (v : ℚ). stage (telling (column_name p j) (column_name p (j + d)) v ∷ map bare (told_before j d))) (ap value_or_zero read)
-            ∙ ap (λ (us : List Telling). stage (telling (column_name p j) (column_name p (j + d)) (at (row_at p.pairs j) (j + d)) ∷ us)) (before_bare j d),
-      )
+      pair_line_read (told_before j d) (before_bare j d) (column_name p j) (column_name p (j + d)) (at (row_at p.pairs j) (j + d))
+      (record {
+        head_word = column_word p good j jt;
+        name_word = column_word p good (j + d) lt;
+        short_head = column_short p good j jt;
+        short_name = column_short p good (j + d) lt;
+        known_head = known_column p good small (length p.columns) j jt;
+        known_name = known_column p good small (length p.columns) (j + d) lt;
+        small = small.pairs j (j + d);
+        new = before_pair p good j d lt;
+        new_turned = before_turned p good j d lt;
+      })
 
   row_pairs_read : (j : ℕ) → j < length p.columns → Lead (stage (pairs_told p j)) (row_pair_lines p j) (stage (pairs_told p (suc j)))
   unfolding told_before

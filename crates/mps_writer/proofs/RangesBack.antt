@@ -16,14 +16,14 @@ use Rattle.mps_writer.specs.Small.{HasSmallNumbers}
 use Rattle.mps_writer.specs.Canonical.{row_name, sides_at, no_sides, width, range_lines, ranges_lines}
 use Rattle.mps_writer.proofs.Erased.{bare}
 use Rattle.mps_writer.proofs.Fields.{number_word}
-use Rattle.mps_writer.proofs.Lookups.{telling, none_told, value_nowhere, value_somewhere, row_differs, same_bytes}
+use Rattle.mps_writer.proofs.Lookups.{telling, none_told, value_nowhere, value_somewhere, row_differs, same_bytes, or_false, or_true}
 use Rattle.mps_writer.proofs.Names.{length-map, row_word, row_short, rows_differ}
 use Rattle.mps_writer.proofs.LineLemmas.{has_append}
 use Rattle.mps_writer.proofs.Runs.{Lead, lead_to, lead_each, takes_data, takes_header}
 use Rattle.mps_writer.proofs.ColumnsBack.{row_known}
 use Rattle.mps_writer.proofs.EntriesBack.{entries_bare, each_bare}
 use Rattle.mps_writer.proofs.SectionsBack.{section_read, nothing_each}
-use Rattle.mps_writer.proofs.SidesBack.{IsNextSide, side_none, set_told, named_set, or_false, or_true, fits_back}
+use Rattle.mps_writer.proofs.SidesBack.{IsNextSide, side_none, set_told, named_set, fits_back}
 use Rattle.mps_writer.proofs.Stages.{entries_told, with_section, set_if, range_told, ranges_told, behind_columns, first_sections}
 
 IsTrue-is : (b : Bool) → IsTrue b → b ≡ true

@@ -24,7 +24,7 @@ use Rattle.mps_writer.specs.Canonical.{row_name, sides_at, right_side, side_line
 use Rattle.mps_writer.proofs.Numerals.{number_back}
 use Rattle.mps_writer.proofs.Erased.{bare}
 use Rattle.mps_writer.proofs.Fields.{IsWord, number_word}
-use Rattle.mps_writer.proofs.Lookups.{each_back, telling, none_told, value-append, value_nowhere, value_somewhere, value_elsewhere, value_here, row_differs, same_bytes, or_none}
+use Rattle.mps_writer.proofs.Lookups.{each_back, telling, none_told, value-append, value_nowhere, value_somewhere, value_elsewhere, value_here, row_differs, same_bytes, or_none, or_false, or_true}
 use Rattle.mps_writer.proofs.Names.{row_word, objective_word, row_short, objective_short, rows_differ, objective_differs}
 use Rattle.mps_writer.proofs.LineLemmas.{has_append}
 use Rattle.mps_writer.proofs.Runs.{Lead, lead_on, lead_to, lead_each, takes_data, takes_header}
@@ -87,14 +87,6 @@ module _ (p : Program) where
             ∙ ap (λ (s : Option (List ℕ)). record (rhs_stage a (telling [] name q ∷ ts)) { side_set = s; entries = map bare (entries_told p (length p.columns)) }) (named_set a (codes "RHS"))
             ∙ ap (λ (us : List Telling). record (rhs_stage true (telling [] name q ∷ ts)) { entries = us }) (entries_bare p (length p.columns)),
       )
-
-pub or_false : (a : Bool) → (a || false) ≡ a
-or_false true = refl
-or_false false = refl
-
-pub or_true : (a : Bool) → (a || true) ≡ true
-or_true true = refl
-or_true false = refl
 
 -- ---- the numbers are small
 

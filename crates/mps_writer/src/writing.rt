@@ -11,7 +11,7 @@ use crate::lines::push_word;
 use crate::pairs::push_pairs;
 use crate::rows::push_rows;
 use crate::sides::{push_ranges, push_right_sides};
-use crate::small::read_back;
+use crate::small::show_read_back;
 use frac_core::Memory;
 use program_model::Program;
 use std::alloc::Global;
@@ -41,7 +41,7 @@ pub fn write(alloc: Global, p: &Program, out: &mut Vec<u8>) -> Result<(), Memory
     // The text alone is read as the program.
     ensures read { IsReadBack p.now }
 {
-    read_back(p);
+    show_read_back(p);
     let mut text = Vec::new(alloc);
     push_program(p, &mut text)?;
     out.extend_from_slice(&text)?;

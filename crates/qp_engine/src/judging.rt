@@ -17,7 +17,7 @@ use crate::answers::{Answer, certificate_word, past_text, refused, told};
 use crate::status::Status;
 use crate::tasks::Task;
 use cert_check::check;
-use cert_text::{CertStop, certificates_that_are_read_fit, read_certificate, write_certificate};
+use cert_text::{CertStop, read_certificate, write_certificate};
 use certificate_law::Certificate;
 use check_law::{Checked, good_fails_no_test};
 use convexity::{Curvature, squares};
@@ -56,7 +56,6 @@ fn checked(alloc: Global, program: &Program, input: &[u8], place: Place) -> Resu
         let count = line_count(input);
         return refused(alloc, count + 1, "CertEnd");
     };
-    certificates_that_are_read_fit();
     match read_certificate(alloc, program, &input[from.byte..], from.line) {
         Ok(certificate) => told(alloc, check(alloc, program, &certificate)?),
         Err(CertStop::Fault { line, kind }) => refused(

@@ -1,4 +1,4 @@
-use Rattle.std.proofs.Common.{ap, ◌+◌, ◌∙◌, ℕ, min, length, sym, arith}
+use Rattle.std.proofs.Common.{arith}
 use Rattle.mps_lines.proofs.WholeLines.{raw_length, ends_at_feed, ends_at_end}
 use Rattle.mps_lines.proofs.lines.whole_line.Goals as goal
 

@@ -1,6 +1,5 @@
-use Rattle.std.proofs.Common.{◌≡◌, Ok, Err, subst, sym, ap, arith}
+use Rattle.std.proofs.Common.{Err, subst, arith}
 use Rattle.mps_lines.specs.declared.stop.LineStop.{LineStop}
-use Rattle.mps_lines.specs.declared.notes.Notes.{Notes}
 use Rattle.mps_lines.specs.Reading.{raw_at}
 use Rattle.mps_lines.specs.Steps.{TakesLine}
 use Rattle.mps_lines.proofs.Histories.{fails, line_fails, now, now_lines, goes, stops}

@@ -1,4 +1,4 @@
-use Rattle.std.proofs.Common.{◌≡◌, ◌∙◌, true, false, sym, ap}
+use Rattle.std.proofs.Common.{◌∙◌, sym, ap}
 use Rattle.mps_grammar.specs.Lines.{is_passed}
 use Rattle.mps_lines.specs.Reading.{spot_of}
 use Rattle.mps_lines.proofs.Histories.{passes_none, is_shown, passes}

@@ -1,4 +1,4 @@
-use Rattle.std.proofs.Common.{sym, ◌∙◌}
+use Rattle.std.proofs.Common.{sym}
 use Rattle.mps_lines.proofs.Words.{words_of}
 use Rattle.mps_lines.proofs.taking.take_shown.Goals as goal
 

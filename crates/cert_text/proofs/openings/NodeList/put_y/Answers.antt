@@ -7,6 +7,6 @@ pub returns : goal.returns
 returns c = elim c.match-self.branch [
   | in-Some w ↦ rw w.self-inside-is (last_changed (with_y c.args.row c.args.value) c.self.inside.done w.in-Some.last _ _ (rw w.in-Some.is at c.self.view_is) w.put_y.ensures)
   | in_default w ↦
-    let none = c.self.invariant w.in_default.is in
-    rw (w.self-inside-is, w.in_default.is, none) (none_changed (with_y c.args.row c.args.value) c.args.self.now (rw (w.in_default.is, none) at c.self.view_is))
+      let none = c.self.invariant w.in_default.is in
+      rw (w.self-inside-is, w.in_default.is, none) (none_changed (with_y c.args.row c.args.value) c.args.self.now (rw (w.in_default.is, none) at c.self.view_is))
 ]

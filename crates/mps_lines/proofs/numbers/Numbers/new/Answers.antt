@@ -1,4 +1,3 @@
-use Rattle.std.proofs.Common.{sym}
 use Rattle.mps_lines.proofs.Marks.{marks_none}
 use Rattle.mps_lines.proofs.numbers.Numbers.new.Goals as goal
 

@@ -1,9 +1,9 @@
-use Rattle.std.proofs.Common.{◌≡◌, None, sym, ap, ◌∙◌}
+use Rattle.std.proofs.Common.{◌≡◌, None, sym, ◌∙◌}
 use Rattle.program_law.specs.Places.{place_of}
 use Rattle.mps_grammar.specs.Told.{names_of}
 use Rattle.mps_lines.specs.Rows.{kinds_of}
 use Rattle.mps_lines.proofs.RowLemmas.{names_kinds}
-use Rattle.mps_lines.proofs.RowsPushed.{bound_done, free_done, kinds_done}
+use Rattle.mps_lines.proofs.RowsPushed.{bound_done, free_done}
 use Rattle.mps_lines.proofs.rows.Rows.push.Goals as goal
 
 pub push-requires : goal.push-requires

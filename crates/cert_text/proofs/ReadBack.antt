@@ -1,0 +1,324 @@
+-- The text of a certificate is read as that certificate.
+use Rattle.std.proofs.Common.{◌≡◌, ℕ, zero, suc, ◌+◌, ◌<◌, ◌≤◌, Bool, true, false, List, [], ◌∷◌, ◌++◌, length, map, drop, Some, Ok, refl, sym, ap, ◌∙◌, subst, arith, codes}
+use Rattle.std.specs.Prelude.{◌||◌, ◌==◌, if◌then◌else◌}
+use Rattle.std.specs.List.{flat_map, AllByRecursion}
+use Rattle.std.proofs.lemmas.List.Concat.{flat_map-append}
+use Rattle.std.proofs.lemmas.Int.{ints}
+use Rattle.std.proofs.Math.Nat.{le_refl}
+use Rattle.std.proofs.Math.Seq.{drop-cons}
+use Rattle.rational.specs.Rational.{ℚ, zero_ℚ, Fits}
+use Rattle.rational.specs.Order.{◌<ℚ◌}
+use Rattle.frac_core.specs.Parts.{max_part}
+use Rattle.frac_core.specs.Text.{text_of}
+use Rattle.program_law.specs.Program.{Program, IsProgram}
+use Rattle.program_law.specs.Tests.{is_zero, is_positive}
+use Rattle.program_law.specs.Changes.{zeros}
+use Rattle.program_law.proofs.Numbers.{above_positive}
+use Rattle.program_law.specs.declared.Square.{Square}
+use Rattle.program_model.specs.Named.{names_of}
+use Rattle.certificate_law.specs.declared.Node.{Node}
+use Rattle.certificate_law.specs.declared.Node.TheVariants as nodes
+use Rattle.certificate_law.specs.declared.Certificate.{Certificate}
+use Rattle.certificate_law.specs.declared.Certificate.TheVariants as certificates
+use Rattle.certificate_law.specs.Squares.{ArePositive}
+use Rattle.check_law.specs.Fits.{FitsNode, FitsSquares, FitsTree, IsColumnVector, HasNoBound}
+use Rattle.mps_tokens.specs.declared.words.CertificateWord.TheVariants as words
+use Rattle.cert_text.specs.declared.names.Axis.{Axis}
+use Rattle.cert_text.specs.declared.names.Axis.TheVariants.{Columns, Rows}
+use Rattle.cert_text.specs.declared.items.Item.{Item}
+use Rattle.cert_text.specs.declared.items.Item.TheVariants as items
+use Rattle.cert_text.specs.declared.items.Claim.{Claim}
+use Rattle.cert_text.specs.declared.items.Claim.TheVariants.{Optimal, Infeasible, Unbounded, NotConvex}
+use Rattle.cert_text.specs.declared.places.Part.{Part}
+use Rattle.cert_text.specs.declared.places.Part.TheVariants as parts
+use Rattle.cert_text.specs.declared.places.Place.{Place}
+use Rattle.cert_text.specs.declared.draft.Draft.{Draft}
+use Rattle.cert_text.specs.Text.{Lines, names_on, count_on, name_at, entry_line, entry_lines, square_lines, node_lines, end_line, certificate_lines, line_text, lines_text, certificate_text}
+use Rattle.cert_text.specs.Places.{start, after, may_stand, least, is_optimal, is_unbounded, is_value, is_points, is_rays, is_squares, is_directions, is_ended, place_after}
+use Rattle.cert_text.specs.Told.{blank, certificate_told}
+use Rattle.cert_text.specs.Reading.{Answer, claim_in, read_on, read_of}
+use Rattle.cert_text.specs.Writable.{IsWritable, NumbersFit, AllFit, SquareFits, NodeFits, branch_count}
+use Rattle.cert_text.proofs.NameLemmas.{count_names}
+use Rattle.cert_text.proofs.ItemFields.{fields_of}
+use Rattle.cert_text.proofs.TextsRead.{IsClear, Runs, after_all, tell_all, item_text, line_pieces, run_read}
+use Rattle.cert_text.proofs.ItemRuns.{entries, square_items, node_items, after_append, runs_append, IsAt, entries_run, point_lists, ray_lists, in_rays, direction_lists, itself, IsGoodSquare, IsPast, squares_run, IsReady, IsDone, MayBound, nodes_run}
+use Rattle.cert_text.proofs.ItemTells.{tell_append, tell_list, tell_squares, tell_nodes}
+use Rattle.cert_text.proofs.Readings.{claimed}
+
+-- ---- the items of a certificate
+
+end_items : List Item
+end_items = items.End ∷ []
+
+abbrev items_of : Certificate → List Item
+items_of (certificates.Optimal x v squares tree) =
+    items.Value v ∷ (entries items.Point 0 x ++ (flat_map square_items squares ++ (flat_map node_items tree ++ items.End ∷ [])))
+items_of (certificates.Infeasible tree) = flat_map node_items tree ++ items.End ∷ []
+items_of (certificates.Unbounded x d squares) = entries items.Point 0 x ++ (entries items.Ray 0 d ++ (flat_map square_items squares ++ items.End ∷ []))
+items_of (certificates.NotConvex v) = entries items.Direction 0 v ++ items.End ∷ []
+
+abbrev claim_of : Certificate → Claim
+claim_of (certificates.Optimal x v squares tree) = Optimal
+claim_of (certificates.Infeasible tree) = Infeasible
+claim_of (certificates.Unbounded x d squares) = Unbounded
+claim_of (certificates.NotConvex v) = NotConvex
+
+abbrev claim_word : Claim → List ℕ
+claim_word Optimal = codes "OPTIMAL"
+claim_word Infeasible = codes "INFEASIBLE"
+claim_word Unbounded = codes "UNBOUNDED"
+claim_word NotConvex = codes "NOTCONVEX"
+
+-- ---- their lines
+
+abbrev fields : Program → List Item → Lines
+fields p is = map (fields_of p) is
+
+fields_append : (p : Program) (xs ys : List Item) → fields p (xs ++ ys) ≡ fields p xs ++ fields p ys
+fields_append p [] ys = refl
+fields_append p (x ∷ xs) ys = ap (λ (l : Lines). fields_of p x ∷ l) (fields_append p xs ys)
+
+no_lines : (word : List ℕ) (names : List (List ℕ)) → entry_lines word names [] ≡ []
+no_lines word [] = refl
+no_lines word (n ∷ ns) = refl
+
+entries_fields : (p : Program) (axis : Axis) (word : List ℕ) (make : ℕ → ℚ → Item) → ((j : ℕ) (v : ℚ) → fields_of p (make j v) ≡ word ∷ name_at (names_on p axis) j ∷ text_of v ∷ []) → (j : ℕ) (vs : List ℚ) → j + length vs ≡ length (names_on p axis)
+    → entry_lines word (drop j (names_on p axis)) vs ≡ fields p (entries make j vs)
+entries_fields p axis word make h j [] e = no_lines word (drop j (names_on p axis))
+entries_fields p axis word make h j (v ∷ vs) e =
+    rw (drop-cons (names_on p axis) j [] (omega (arith, e))) (go (entries_fields p axis word make h (suc j) vs (omega (arith, e))) (is_zero v))
+  where
+    go : entry_lines word (drop (suc j) (names_on p axis)) vs ≡ fields p (entries make (suc j) vs)
+        → (t : Bool) → (if t then [] else (word ∷ name_at (names_on p axis) j ∷ text_of v ∷ []) ∷ []) ++ entry_lines word (drop (suc j) (names_on p axis)) vs ≡ fields p ((if t then [] else make j v ∷ []) ++ entries make (suc j) vs)
+    go rest true = rest
+    go rest false = ap (λ (l : Lines). (word ∷ name_at (names_on p axis) j ∷ text_of v ∷ []) ∷ l) rest ∙ ap (λ (f : List (List ℕ)). f ∷ fields p (entries make (suc j) vs)) (sym (h j v))
+
+column_count : (p : Program) (vs : List ℚ) → length vs ≡ length p.columns → 0 + length vs ≡ length (names_on p Columns)
+column_count p vs e = omega (arith, e, count_names p.columns)
+
+row_count : (p : Program) (vs : List ℚ) → length vs ≡ length p.rows → 0 + length vs ≡ length (names_on p Rows)
+row_count p vs e = omega (arith, e, count_names p.rows)
+
+square_fields : (p : Program) (qs : List Square) → AllByRecursion (λ q. IsColumnVector p q.coef) qs → flat_map (square_lines p) qs ≡ fields p (flat_map square_items qs)
+square_fields p [] h = refl
+square_fields p (q ∷ qs) h =
+    let one : square_lines p q ≡ fields p (square_items q) = ap (λ (l : Lines). (codes "SQUARE" ∷ text_of q.weight ∷ []) ∷ l) (entries_fields p Columns (codes "COEF") items.Coef (λ j v. refl) 0 q.coef (column_count p q.coef h.0)) in
+    ap (λ (l : Lines). l ++ flat_map (square_lines p) qs) one ∙ ap (λ (l : Lines). fields p (square_items q) ++ l) (square_fields p qs h.1) ∙ sym (fields_append p (square_items q) (flat_map square_items qs))
+
+one_node : (p : Program) (n : Node) → FitsNode p n → node_lines p n ≡ fields p (node_items n)
+one_node p (nodes.Branch j k) h = refl
+one_node p (nodes.Bound w y) h =
+    let ws = entries_fields p Columns (codes "W") items.W (λ j v. refl) 0 w (column_count p w h.0) in
+    let ys = entries_fields p Rows (codes "Y") items.Y (λ j v. refl) 0 y (row_count p y h.1) in
+    ap (λ (l : Lines). (codes "BOUND" ∷ []) ∷ (l ++ entry_lines (codes "Y") (names_on p Rows) y)) ws ∙ ap (λ (l : Lines). (codes "BOUND" ∷ []) ∷ (fields p (entries items.W 0 w) ++ l)) ys
+    ∙ ap (λ (l : Lines). (codes "BOUND" ∷ []) ∷ l) (sym (fields_append p (entries items.W 0 w) (entries items.Y 0 y)))
+one_node p (nodes.Farkas y) h = ap (λ (l : Lines). (codes "FARKAS" ∷ []) ∷ l) (entries_fields p Rows (codes "Y") items.Y (λ j v. refl) 0 y (row_count p y h))
+one_node p (nodes.Cross j) h = refl
+
+node_fields : (p : Program) (ns : List Node) → AllByRecursion (FitsNode p) ns → flat_map (node_lines p) ns ≡ fields p (flat_map node_items ns)
+node_fields p [] h = refl
+node_fields p (n ∷ ns) h =
+    ap (λ (l : Lines). l ++ flat_map (node_lines p) ns) (one_node p n h.0) ∙ ap (λ (l : Lines). fields p (node_items n) ++ l) (node_fields p ns h.1) ∙ sym (fields_append p (node_items n) (flat_map node_items ns))
+
+-- lines behind lines
+behind : (p : Program) (a b : Lines) (xs ys : List Item) → a ≡ fields p xs → b ≡ fields p ys → a ++ b ≡ fields p (xs ++ ys)
+behind p a b xs ys e f = ap (λ (l : Lines). l ++ b) e ∙ ap (λ (l : Lines). fields p xs ++ l) f ∙ sym (fields_append p xs ys)
+
+all_fields : (p : Program) (c : Certificate) → IsWritable p c → certificate_lines p c ≡ (claim_word (claim_of c) ∷ []) ∷ fields p (items_of c)
+all_fields p (certificates.Optimal x v squares tree) h =
+    let points = entries_fields p Columns (codes "POINT") items.Point (λ j v. refl) 0 x (column_count p x h.fitting.0) in
+    let tail = behind p (flat_map (node_lines p) tree) end_line (flat_map node_items tree) (items.End ∷ []) (node_fields p tree h.fitting.2.nodes_fit) refl in
+    let below = behind p (flat_map (square_lines p) squares) (flat_map (node_lines p) tree ++ end_line) (flat_map square_items squares) (flat_map node_items tree ++ items.End ∷ []) (square_fields p squares h.fitting.1.widths) tail in
+    ap (λ (l : Lines). (codes "OPTIMAL" ∷ []) ∷ (codes "VALUE" ∷ text_of v ∷ []) ∷ l)
+    (behind p (entry_lines (codes "POINT") (names_on p Columns) x) (flat_map (square_lines p) squares ++ (flat_map (node_lines p) tree ++ end_line)) (entries items.Point 0 x) (flat_map square_items squares ++ (flat_map node_items tree ++ items.End ∷ [])) points below)
+all_fields p (certificates.Infeasible tree) h =
+    ap (λ (l : Lines). (codes "INFEASIBLE" ∷ []) ∷ l) (behind p (flat_map (node_lines p) tree) end_line (flat_map node_items tree) (items.End ∷ []) (node_fields p tree h.fitting.0.nodes_fit) refl)
+all_fields p (certificates.Unbounded x d squares) h =
+    let points = entries_fields p Columns (codes "POINT") items.Point (λ j v. refl) 0 x (column_count p x h.fitting.0) in
+    let rays = entries_fields p Columns (codes "RAY") items.Ray (λ j v. refl) 0 d (column_count p d h.fitting.1) in
+    let tail = behind p (flat_map (square_lines p) squares) end_line (flat_map square_items squares) (items.End ∷ []) (square_fields p squares h.fitting.2.widths) refl in
+    let below = behind p (entry_lines (codes "RAY") (names_on p Columns) d) (flat_map (square_lines p) squares ++ end_line) (entries items.Ray 0 d) (flat_map square_items squares ++ items.End ∷ []) rays tail in
+    ap (λ (l : Lines). (codes "UNBOUNDED" ∷ []) ∷ l)
+    (behind p (entry_lines (codes "POINT") (names_on p Columns) x) (entry_lines (codes "RAY") (names_on p Columns) d ++ (flat_map (square_lines p) squares ++ end_line)) (entries items.Point 0 x) (entries items.Ray 0 d ++ (flat_map square_items squares ++ items.End ∷ [])) points below)
+all_fields p (certificates.NotConvex v) h =
+    ap (λ (l : Lines). (codes "NOTCONVEX" ∷ []) ∷ l)
+    (behind p (entry_lines (codes "VECTOR") (names_on p Columns) v) end_line (entries items.Direction 0 v) (items.End ∷ []) (entries_fields p Columns (codes "VECTOR") items.Direction (λ j v. refl) 0 v (column_count p v h.fitting)) refl)
+
+lines_of_items : (p : Program) (is : List Item) → lines_text (fields p is) ≡ flat_map (item_text p) is
+lines_of_items p [] = refl
+lines_of_items p (i ∷ is) = ap (λ (t : List ℕ). item_text p i ++ t) (lines_of_items p is)
+
+-- ---- they are accepted to the end
+
+ray_least : (s : Place) → is_points s.part ≡ true → least s words.Ray ≤ 0
+ray_least s e = go s.part e
+  where
+    go : (part : Part) → is_points part ≡ true → (if is_rays part then s.next else 0) ≤ 0
+    go parts.Points e = le_refl 0
+    go parts.Rays e = absurd cc
+    go parts.Value e = absurd cc
+    go parts.Directions e = absurd cc
+    go parts.Squares e = absurd cc
+    go parts.Nodes e = absurd cc
+    go parts.LeafPoint e = absurd cc
+    go parts.Multipliers e = absurd cc
+    go parts.Ended e = absurd cc
+
+in_points : (part : Part) → is_points part ≡ true → in_rays part ≡ true
+in_points part e = rw e refl
+
+record Finishes (p : Program) (s : Place) (is : List Item) : Type 0 where
+  runs : Runs p s is
+  ends : is_ended (after_all s is).part ≡ true
+
+finish_then : (p : Program) (s : Place) (xs ys : List Item) → Runs p s xs → Finishes p (after_all s xs) ys → Finishes p s (xs ++ ys)
+finish_then p s xs ys a b = record { runs = runs_append p s xs ys a b.runs; ends = ap (λ (s : Place). is_ended s.part) (after_append s xs ys) ∙ b.ends }
+
+finish_end : (p : Program) (s : Place) → s.wanted ≡ 0 → is_ended s.part ≡ false → Finishes p s (items.End ∷ [])
+finish_end p s e f = record { runs = (f, ap (λ n. n == 0) e, tt); ends = refl }
+
+points_stand : (part : Part) → is_points part ≡ true → (is_points part || (is_rays part || is_squares part)) ≡ true
+points_stand part e = rw e refl
+
+rays_squares : (part : Part) → in_rays part ≡ true → (is_points part || (is_rays part || is_squares part)) ≡ true
+rays_squares parts.Points e = refl
+rays_squares parts.Rays e = refl
+rays_squares parts.Value e = absurd cc
+rays_squares parts.Directions e = absurd cc
+rays_squares parts.Squares e = refl
+rays_squares parts.Nodes e = absurd cc
+rays_squares parts.LeafPoint e = absurd cc
+rays_squares parts.Multipliers e = absurd cc
+rays_squares parts.Ended e = absurd cc
+
+squares_ready : (part : Part) → (is_points part || (is_rays part || is_squares part)) ≡ true → (is_value part ≡ false) × (is_ended part ≡ false)
+squares_ready parts.Points e = (refl, refl)
+squares_ready parts.Rays e = (refl, refl)
+squares_ready parts.Squares e = (refl, refl)
+squares_ready parts.Value e = absurd cc
+squares_ready parts.Directions e = absurd cc
+squares_ready parts.Nodes e = absurd cc
+squares_ready parts.LeafPoint e = absurd cc
+squares_ready parts.Multipliers e = absurd cc
+squares_ready parts.Ended e = absurd cc
+
+directions_open : (part : Part) → is_directions part ≡ true → is_ended part ≡ false
+directions_open parts.Directions e = refl
+directions_open parts.Points e = refl
+directions_open parts.Rays e = refl
+directions_open parts.Squares e = refl
+directions_open parts.Value e = refl
+directions_open parts.Nodes e = refl
+directions_open parts.LeafPoint e = refl
+directions_open parts.Multipliers e = refl
+directions_open parts.Ended e = absurd cc
+
+good_squares : (p : Program) (qs : List Square) → ArePositive qs → AllByRecursion (λ q. IsColumnVector p q.coef) qs → AllByRecursion SquareFits qs → AllByRecursion (IsGoodSquare p) qs
+good_squares p [] a b c = tt
+good_squares p (q ∷ qs) a b c = (record { weight = c.0.0; positive = above_positive q.weight a.0; width = b.0; entries_fit = c.0.1 }, good_squares p qs a.1 b.1 c.1)
+
+nodes_end : (p : Program) (s : Place) (tree : List Node) → s.wanted ≡ 1 → s.branches ≡ 0 → IsReady s → FitsTree p tree → branch_count tree ≤ 20256 → AllByRecursion NodeFits tree → MayBound (is_optimal s.claim) tree → Finishes p s (flat_map node_items tree ++ items.End ∷ [])
+nodes_end p s tree w z ready fit few good b =
+    let run = nodes_run p s tree 1 w fit.tree ready (omega (arith, z, few)) fit.nodes_fit good b in
+    finish_then p s (flat_map node_items tree) (items.End ∷ []) run.0 (finish_end p (after_all s (flat_map node_items tree)) run.1.wanted run.1.unended)
+
+finishes : (p : Program) (c : Certificate) → IsWritable p c → NumbersFit c → Finishes p (start (claim_of c)) (items_of c)
+finishes p (certificates.Optimal x v squares tree) h fit =
+    let s = after (start Optimal) (items.Value v) in
+    let points = entries_run p s words.Point Columns items.Point is_points (point_lists p s) s 0 x (itself s is_points refl) (le_refl 0) (omega (arith, h.fitting.0)) fit.0 in
+    let t = after_all s (entries items.Point 0 x) in
+    let below = squares_run p t squares (points_stand t.part points.1.part) (omega (arith, points.1.squares, h.few_squares)) (good_squares p squares h.fitting.1.positive h.fitting.1.widths fit.2) in
+    let u = after_all t (flat_map square_items squares) in
+    let ready = squares_ready u.part below.1.stands in
+    let optimal : is_optimal u.claim ≡ true = ap is_optimal (below.1.kept.claim ∙ points.1.claim) in
+    let rest = nodes_end p u tree (below.1.kept.wanted ∙ points.1.wanted) (below.1.kept.branches ∙ points.1.branches) (record { past_value = ready.0; unended = ready.1 }) h.fitting.2 h.few_branches fit.3
+    (subst (λ b. MayBound b tree) (sym optimal) tt) in
+    let more = finish_then p s (entries items.Point 0 x) (flat_map square_items squares ++ (flat_map node_items tree ++ items.End ∷ [])) points.0
+    (finish_then p t (flat_map square_items squares) (flat_map node_items tree ++ items.End ∷ []) below.0 rest) in
+    record { runs = (refl, (refl, fit.1), more.runs); ends = more.ends }
+finishes p (certificates.Infeasible tree) h fit = nodes_end p (start Infeasible) tree refl refl (record { past_value = refl; unended = refl }) h.fitting.0 h.few_branches fit h.fitting.1
+finishes p (certificates.Unbounded x d squares) h fit =
+    let s = start Unbounded in
+    let points = entries_run p s words.Point Columns items.Point is_points (point_lists p s) s 0 x (itself s is_points refl) (le_refl 0) (omega (arith, h.fitting.0)) fit.0 in
+    let t = after_all s (entries items.Point 0 x) in
+    let low : least t words.Ray ≤ 0 = ray_least t points.1.part in
+    let rays = entries_run p t words.Ray Columns items.Ray in_rays (ray_lists p t (ap is_unbounded points.1.claim)) t 0 d (itself t in_rays (in_points t.part points.1.part)) low (omega (arith, h.fitting.1)) fit.1 in
+    let u = after_all t (entries items.Ray 0 d) in
+    let count : u.squares ≡ 0 = rays.1.squares ∙ points.1.squares in
+    let below = squares_run p u squares (rays_squares u.part rays.1.part) (omega (arith, count, h.few_squares)) (good_squares p squares h.fitting.2.positive h.fitting.2.widths fit.2) in
+    let v = after_all u (flat_map square_items squares) in
+    let last = finish_end p v (below.1.kept.wanted ∙ rays.1.wanted ∙ points.1.wanted) (squares_ready v.part below.1.stands).1 in
+    finish_then p s (entries items.Point 0 x) (entries items.Ray 0 d ++ (flat_map square_items squares ++ items.End ∷ [])) points.0
+    (finish_then p t (entries items.Ray 0 d) (flat_map square_items squares ++ items.End ∷ []) rays.0 (finish_then p u (flat_map square_items squares) (items.End ∷ []) below.0 last))
+finishes p (certificates.NotConvex v) h fit =
+    let s = start NotConvex in
+    let list = entries_run p s words.Vector Columns items.Direction is_directions (direction_lists p s) s 0 v (itself s is_directions refl) (le_refl 0) (omega (arith, h.fitting)) fit in
+    let t = after_all s (entries items.Direction 0 v) in
+    finish_then p s (entries items.Direction 0 v) (items.End ∷ []) list.0 (finish_end p t list.1.wanted (directions_open t.part list.1.part))
+
+-- ---- and tell it
+
+tells : (p : Program) (c : Certificate) → IsWritable p c → certificate_told (claim_of c) (tell_all p (blank (length p.columns)) (items_of c)) ≡ c
+tells p (certificates.Optimal x v squares tree) h =
+    let d = record (blank (length p.columns)) { value = v } in
+    let points : tell_all p d (entries items.Point 0 x) ≡ record d { point = x } = tell_list p items.Point (λ xs. record d { point = xs }) (λ xs j v. refl) (length p.columns) x h.fitting.0 in
+    let e = record d { point = x } in
+    let rest = flat_map square_items squares ++ (flat_map node_items tree ++ items.End ∷ []) in
+    let tail = flat_map node_items tree ++ items.End ∷ [] in
+    ap (certificate_told Optimal)
+    (tell_append p d (entries items.Point 0 x) rest ∙ ap (λ d. tell_all p d rest) points
+    ∙ tell_append p e (flat_map square_items squares) tail ∙ ap (λ d. tell_all p d tail) (tell_squares p e squares h.fitting.1.widths)
+    ∙ tell_append p (record e { squares = squares }) (flat_map node_items tree) (items.End ∷ []) ∙ ap (λ d. tell_all p d (items.End ∷ [])) (tell_nodes p (record e { squares = squares }) tree h.fitting.2.nodes_fit))
+tells p (certificates.Infeasible tree) h =
+    let d = blank (length p.columns) in
+    ap (certificate_told Infeasible) (tell_append p d (flat_map node_items tree) (items.End ∷ []) ∙ ap (λ d. tell_all p d (items.End ∷ [])) (tell_nodes p d tree h.fitting.0.nodes_fit))
+tells p (certificates.Unbounded x d squares) h =
+    let b = blank (length p.columns) in
+    let points : tell_all p b (entries items.Point 0 x) ≡ record b { point = x } = tell_list p items.Point (λ xs. record b { point = xs }) (λ xs j v. refl) (length p.columns) x h.fitting.0 in
+    let e = record b { point = x } in
+    let rays : tell_all p e (entries items.Ray 0 d) ≡ record e { ray = d } = tell_list p items.Ray (λ xs. record e { ray = xs }) (λ xs j v. refl) (length p.columns) d h.fitting.1 in
+    let f = record e { ray = d } in
+    let rest = entries items.Ray 0 d ++ (flat_map square_items squares ++ items.End ∷ []) in
+    let tail = flat_map square_items squares ++ items.End ∷ [] in
+    ap (certificate_told Unbounded)
+    (tell_append p b (entries items.Point 0 x) rest ∙ ap (λ d. tell_all p d rest) points
+    ∙ tell_append p e (entries items.Ray 0 d) tail ∙ ap (λ d. tell_all p d tail) rays
+    ∙ tell_append p f (flat_map square_items squares) (items.End ∷ []) ∙ ap (λ d. tell_all p d (items.End ∷ [])) (tell_squares p f squares h.fitting.2.widths))
+tells p (certificates.NotConvex v) h =
+    let b = blank (length p.columns) in
+    let list : tell_all p b (entries items.Direction 0 v) ≡ record b { direction = v } = tell_list p items.Direction (λ xs. record b { direction = xs }) (λ xs j v. refl) (length p.columns) v h.fitting in
+    ap (certificate_told NotConvex) (tell_append p b (entries items.Direction 0 v) (items.End ∷ []) ∙ ap (λ d. tell_all p d (items.End ∷ [])) list)
+
+-- ---- the whole text
+
+word_clear : (claim : Claim) → AllByRecursion IsClear (claim_word claim ∷ [])
+word_clear Optimal = (record { bytes = refl }, tt)
+word_clear Infeasible = (record { bytes = refl }, tt)
+word_clear Unbounded = (record { bytes = refl }, tt)
+word_clear NotConvex = (record { bytes = refl }, tt)
+
+word_claims : (claim : Claim) → claim_in (claim_word claim) ≡ Some claim
+unfolding claim_in
+word_claims Optimal = refl
+word_claims Infeasible = refl
+word_claims Unbounded = refl
+word_claims NotConvex = refl
+
+pub read_back : (p : Program) (c : Certificate) (n : ℕ) → IsProgram p → IsWritable p c → NumbersFit c → read_of p n (certificate_text p c) ≡ Ok c
+unfolding certificate_text
+read_back p c n good h fit =
+    let claim = claim_of c in
+    let rest = flat_map (item_text p) (items_of c) in
+    let text : certificate_text p c ≡ line_text (claim_word claim ∷ []) ++ rest =
+    ap lines_text (all_fields p c h) ∙ ap (λ (t : List ℕ). line_text (claim_word claim ∷ []) ++ t) (lines_of_items p (items_of c)) in
+    let run = finishes p c h fit in
+    ap (read_of p n) text
+    ∙ claimed p n (claim_word claim) (line_text (claim_word claim ∷ []) ++ rest) rest claim (line_pieces (claim_word claim ∷ []) rest (word_clear claim)) (word_claims claim)
+    ∙ run_read p claim (n + 1) [] (items_of c) good run.runs run.ends
+    ∙ ap Ok (tells p c h)
+
+one_answer : (a : Answer) (c other : Certificate) → a ≡ Ok c → a ≡ Ok other → c ≡ other
+one_answer a c other e f = cc
+
+pub one_text : (p : Program) (c other : Certificate) → IsProgram p → IsWritable p c → NumbersFit c → IsWritable p other → NumbersFit other → certificate_text p c ≡ certificate_text p other → c ≡ other
+one_text p c other good h fit k fits e = one_answer (read_of p 0 (certificate_text p c)) c other (read_back p c 0 good h fit) (ap (read_of p 0) e ∙ read_back p other 0 good k fits)

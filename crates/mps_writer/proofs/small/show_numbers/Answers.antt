@@ -1,0 +1,5 @@
+use Rattle.mps_writer.proofs.SmallNumbers.{all_small}
+use Rattle.mps_writer.proofs.small.show_numbers.Goals as goal
+
+pub returns-clause-numbers : goal.returns-clause-numbers
+returns-clause-numbers c = all_small c.args.p.now c.rows-rows.ensures.program c.show_entries.ensures c.show_costs.ensures (rw (← c.constant.ensures) c.show_number.ensures) c.show_pairs.ensures c.show_rows.ensures c.show_columns.ensures

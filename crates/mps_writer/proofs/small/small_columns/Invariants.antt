@@ -1,8 +1,0 @@
--- those so far are small
-use Rattle.std.proofs.Common.{ℕ, ◌<◌}
-use Rattle.mps_writer.specs.Canonical.{bounds_at}
-use Rattle.mps_writer.specs.Small.{HasSmallSides}
-use Rattle.mps_writer.proofs.small.small_columns.Given as goal
-
-abbrev pub invariant-loop-j : goal.invariant-loop-j
-invariant-loop-j l = (k : ℕ) → k < l.j → HasSmallSides (bounds_at l.p k)

@@ -1,8 +1,0 @@
--- those so far are small
-use Rattle.std.proofs.Common.{ℕ, ◌<◌}
-use Rattle.mps_writer.specs.Canonical.{sides_at}
-use Rattle.mps_writer.specs.Small.{HasSmallSides}
-use Rattle.mps_writer.proofs.small.small_rows.Given as goal
-
-abbrev pub invariant-loop-i : goal.invariant-loop-i
-invariant-loop-i l = (k : ℕ) → k < l.i → HasSmallSides (sides_at l.p k)
