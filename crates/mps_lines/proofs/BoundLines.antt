@@ -3,7 +3,6 @@ use Rattle.std.proofs.Common.{◌≡◌, ℕ, ◌<◌, Bool, true, false, ◌||�
 use Rattle.rational.specs.Rational.{ℚ}
 use Rattle.program_law.specs.Places.{place_of}
 use Rattle.mps_tokens.specs.declared.words.BoundKind.{BoundKind}
-use Rattle.mps_grammar.specs.declared.kinds.FaultKind.{FaultKind}
 use Rattle.mps_grammar.specs.declared.kinds.FaultKind.TheVariants as kinds
 use Rattle.mps_grammar.specs.Fields.{Bounded}
 use Rattle.mps_grammar.specs.Told.{names_of, is_used, bound_value, with_bound}
@@ -26,9 +25,6 @@ number_tests b = (of_number is_no_number b.number, kinds.NumberText) ∷ (of_num
 module _ (n : Notes) (kind : BoundKind) (b : Bounded) (column : ℕ) (h : IsSound n) (short : (is_long b.set || is_long b.column) ≡ false) (at : place_of (names_of n.columns) b.column ≡ Some column) where
   rests : bounded_tests (told_in n) (Some b) ≡ (false, kinds.NameLong) ∷ (false, kinds.NameUnknown) ∷ number_tests b
   rests = rw (short, at) refl
-
-  pub bound_fails : (fault : FaultKind) → first_of (number_tests b) ≡ Some fault → first_of (bounded_tests (told_in n) (Some b)) ≡ Some fault
-  bound_fails fault e = ap first_of rests ∙ e
 
   more_bounds : (value : ℚ) (new : Bounds) (used : Bool) → value ≡ bound_value b.number → is_used (text_in n.bounds.set) b.set ≡ used → BoundDone n.bounds new b.set (record { kind = kind; column = column; value = value })
       → AreBounds (names_of n.columns) new.items.items × (bounds_of (names_of n.columns) new.items.items ≡ with_bound (text_in n.bounds.set) (Some (kind, b)) (bounds_of (names_of n.columns) n.bounds.items.items))

@@ -149,9 +149,6 @@ pub passes_none : (text : List ℕ) (first : Spot) → first.0 ≤ length text �
 passes_none text first le = record { count = first.0; place = omega arith; few = omega arith; goes_on = refl }
 
 module _ (text : List ℕ) (first : Spot) (at line : ℕ) (passed : IsPassed text first at line) where
-  pub none_shown : length text ≤ at → None ≡ rest_of text first
-  none_shown le = let none = no_lines text at le in sym (rw none refl) ∙ passed.goes_on
-
   module _ (whole : Whole) (lt : at < length text) (is_whole : IsWhole text at whole) where
     at_is : passed.count ≡ at
     at_is = omega (arith, passed.place, lt)

@@ -85,6 +85,3 @@ module _ (old : Inside) (h : IsRows old) (n m : List ℕ) (kind : RowKind) (b : 
       let P : Named → Type 0 = λ l. IsRows (record { named = l; bound = old.bound; objective = true }) in
       let place : p ≡ place_after false old.bound old.objective = p-is ∙ rw e refl in
       subst P (sym (same_rows old.named n m kind p (place_after false old.bound old.objective) new m-is place new-is)) (free_pushed old h n kind gone_named name apart (sym b-is ∙ e))
-
-  pub kinds_done : kinds_of new ≡ kinds_of old.named ++ (n, kind) ∷ []
-  kinds_done = ap kinds_of (new-is ∙ rw m-is refl) ∙ kinds_push old.named n (record { kind = kind; place = p })

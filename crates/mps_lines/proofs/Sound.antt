@@ -1,10 +1,8 @@
 -- What is kept stays sound, and what each change of it tells.
 use Rattle.std.proofs.Common.{◌≡◌, ℕ, ◌<◌, Bool, false, List, [], ◌∷◌, ◌++◌, length, Option, Some, None, refl, sym, ap, subst, ◌∙◌, arith, length-append}
-use Rattle.std.specs.Global.{Vec}
 use Rattle.std.specs.Str.{bytes_eq}
 use Rattle.program_law.specs.Places.{place_of}
 use Rattle.program_law.specs.Program.{IsName}
-use Rattle.mps_tokens.specs.declared.words.Section.{Section}
 use Rattle.mps_tokens.specs.declared.words.RowKind.{RowKind}
 use Rattle.mps_grammar.specs.Told.{Told, Telling, BoundTelling, names_of, used_names}
 use Rattle.mps_lines.specs.declared.numbers.Entry.{Entry}
@@ -18,26 +16,6 @@ use Rattle.mps_lines.specs.Steps.{Holds, with_name}
 use Rattle.mps_lines.proofs.NameLemmas.{Differ-push}
 use Rattle.mps_lines.proofs.RowLemmas.{names_push, all_push, used_kept}
 use Rattle.mps_lines.proofs.Tellings.{absent_name_at, tellings_columns, tellings_rows, tellings_grow, entries_grow, entries_row, pairs_grow, bounds_grow, bounds_same}
-
--- ---- changes that nothing else stands on
-
-pub keeps_lines : (n : Notes) (count : ℕ) → IsSound n → Holds (record (told_in n) { lines = count }) (record n { lines = count })
-keeps_lines n count h = record {
-  told_is = refl;
-  sound = record { rows_differ = h.rows_differ; column_names = h.column_names; columns_differ = h.columns_differ; few_columns = h.few_columns; entries = h.entries; sides = h.sides; ranges = h.ranges; bounds = h.bounds; pairs = h.pairs };
-}
-
-pub keeps_sections : (n : Notes) (begun : Vec Section) (items : List Section) → IsSound n → begun.items ≡ items → Holds (record (told_in n) { sections = items }) (record n { sections = begun })
-keeps_sections n begun items h e = record {
-  told_is = ap (λ (l : List Section). record (told_in n) { sections = l }) e;
-  sound = record { rows_differ = h.rows_differ; column_names = h.column_names; columns_differ = h.columns_differ; few_columns = h.few_columns; entries = h.entries; sides = h.sides; ranges = h.ranges; bounds = h.bounds; pairs = h.pairs };
-}
-
-pub keeps_begun : (n : Notes) (begun : Bool) → IsSound n → Holds (record (told_in n) { begun = begun }) (record n { begun = begun })
-keeps_begun n begun h = record {
-  told_is = refl;
-  sound = record { rows_differ = h.rows_differ; column_names = h.column_names; columns_differ = h.columns_differ; few_columns = h.few_columns; entries = h.entries; sides = h.sides; ranges = h.ranges; bounds = h.bounds; pairs = h.pairs };
-}
 
 -- ---- numbers and bounds
 

@@ -7,7 +7,7 @@ use Rattle.std.proofs.lemmas.Bool.Decides.{nat_tests}
 use Rattle.std.proofs.lemmas.List.Sums.{AllPass-from_list_all}
 use Rattle.program_law.specs.Program.{IsName}
 use Rattle.mps_tokens.specs.FieldsOf.{is_blank, is_filled, fields_of}
-use Rattle.mps_grammar.specs.Fields.{Pair, Entries, entries_in, row_name_in}
+use Rattle.mps_grammar.specs.Fields.{Pair, Entries, entries_in}
 use Rattle.mps_grammar.specs.Faults.{is_long, has_long, is_plain_byte, is_plain}
 use Rattle.mps_lines.specs.Names.{is_graphic, is_word}
 
@@ -49,10 +49,6 @@ abbrev head_of : Option Entries → List ℕ
 head_of None = []
 head_of (Some e) = e.0
 
-abbrev name_of : Option (List ℕ) → List ℕ
-name_of None = []
-name_of (Some n) = n
-
 pub entries_word : (fields : List (List ℕ)) (head : List ℕ) (pairs : List Pair) → list_all is_word fields ≡ true → entries_in fields ≡ Some (head, pairs) → is_word head ≡ true
 entries_word [] head pairs w e = absurd cc
 entries_word (a ∷ []) head pairs w e = absurd cc
@@ -61,14 +57,6 @@ entries_word (a ∷ b ∷ c ∷ []) head pairs w e = let same : a ≡ head = ap 
 entries_word (a ∷ b ∷ c ∷ d ∷ []) head pairs w e = absurd cc
 entries_word (a ∷ b ∷ c ∷ d ∷ f ∷ []) head pairs w e = let same : a ≡ head = ap head_of e in rw (← same) (both (is_word a) (list_all is_word (b ∷ c ∷ d ∷ f ∷ [])) w).0
 entries_word (a ∷ b ∷ c ∷ d ∷ f ∷ g ∷ rest) head pairs w e = absurd cc
-
-pub row_word : (fields : List (List ℕ)) (name : List ℕ) → list_all is_word fields ≡ true → row_name_in fields ≡ Some name → is_word name ≡ true
-row_word [] name w e = absurd cc
-row_word (a ∷ []) name w e = absurd cc
-row_word (a ∷ b ∷ []) name w e =
-    let same : b ≡ name = ap name_of e in
-    rw (← same) (both (is_word b) true (both (is_word a) (is_word b && true) w).1).0
-row_word (a ∷ b ∷ c ∷ rest) name w e = absurd cc
 
 -- ---- the fields of a line of plain bytes
 
