@@ -114,10 +114,10 @@ count_last f [] = refl
 count_last f (x ∷ []) = refl
 count_last f (x ∷ y ∷ ys) = ap (λ (n : ℕ). suc n) (count_last f (y ∷ ys))
 
-record AreVectors (p : Program) (d : Draft) : Type 0 where
-  point : length d.point ≡ length p.columns
-  ray : length d.ray ≡ length p.columns
-  direction : length d.direction ≡ length p.columns
+pub record AreVectors (p : Program) (d : Draft) : Type 0 where
+  pub point : length d.point ≡ length p.columns
+  pub ray : length d.ray ≡ length p.columns
+  pub direction : length d.direction ≡ length p.columns
 
 vectors_more : (p : Program) (c r : ℕ) (d : Draft) (item : Item) → AreVectors p d → AreVectors p (with_item c r item d)
 vectors_more p c r d (items.Value v) h = record { point = h.point; ray = h.ray; direction = h.direction }
@@ -135,11 +135,11 @@ vectors_more p c r d (items.Y i v) h = record { point = h.point; ray = h.ray; di
 vectors_more p c r d items.End h = h
 
 -- squares, so many as are counted
-record AreSquares (p : Program) (count : ℕ) (qs : List Square) : Type 0 where
-  positive : ArePositive qs
-  widths : AllByRecursion (λ q. IsColumnVector p q.coef) qs
-  counted : length qs ≡ count
-  few : count ≤ 128
+pub record AreSquares (p : Program) (count : ℕ) (qs : List Square) : Type 0 where
+  pub positive : ArePositive qs
+  pub widths : AllByRecursion (λ q. IsColumnVector p q.coef) qs
+  pub counted : length qs ≡ count
+  pub few : count ≤ 128
 
 positive_push : (qs : List Square) (q : Square) → ArePositive qs → ArePositive (q ∷ []) → ArePositive (qs ++ q ∷ [])
 positive_push [] q h k = k
@@ -186,11 +186,11 @@ squares_more p s d (items.Y i v) a h = h
 squares_more p s d items.End a h = h
 
 -- nodes, with as many branches as are counted
-record AreNodes (p : Program) (claim : Claim) (count : ℕ) (ns : List Node) : Type 0 where
-  nodes_fit : AllByRecursion (FitsNode p) ns
-  counted : branch_count ns ≡ count
-  few : count ≤ 20256
-  bound : MayBound (is_optimal claim) ns
+pub record AreNodes (p : Program) (claim : Claim) (count : ℕ) (ns : List Node) : Type 0 where
+  pub nodes_fit : AllByRecursion (FitsNode p) ns
+  pub counted : branch_count ns ≡ count
+  pub few : count ≤ 20256
+  pub bound : MayBound (is_optimal claim) ns
 
 branches_push : (ns : List Node) (n : Node) → branch_count (ns ++ n ∷ []) ≡ branch_count ns + branch_count (n ∷ [])
 branches_push [] n = omega arith
@@ -345,12 +345,12 @@ nodes_more p claim s d items.End c a h = h
 
 -- ---- all of it, item by item
 
-record IsGood (p : Program) (claim : Claim) (s : Place) (d : Draft) : Type 0 where
-  claim_is : s.claim ≡ claim
-  vectors : AreVectors p d
-  squares : AreSquares p s.squares d.squares
-  nodes_are : AreNodes p claim s.branches d.nodes
-  tracked : Tracks claim s d.nodes
+pub record IsGood (p : Program) (claim : Claim) (s : Place) (d : Draft) : Type 0 where
+  pub claim_is : s.claim ≡ claim
+  pub vectors : AreVectors p d
+  pub squares : AreSquares p s.squares d.squares
+  pub nodes_are : AreNodes p claim s.branches d.nodes
+  pub tracked : Tracks claim s d.nodes
 
 claim_stays : (s : Place) (item : Item) → (after s item).claim ≡ s.claim
 claim_stays s (items.Value v) = refl
@@ -382,7 +382,7 @@ accepted_stands p s (items.W j v) a = a.stands
 accepted_stands p s (items.Y i v) a = a.stands
 accepted_stands p s items.End a = a
 
-good_more : (p : Program) (claim : Claim) (s : Place) (d : Draft) (item : Item) → Accepted p s item → IsGood p claim s d → IsGood p claim (after s item) (with_item (length p.columns) (length p.rows) item d)
+pub good_more : (p : Program) (claim : Claim) (s : Place) (d : Draft) (item : Item) → Accepted p s item → IsGood p claim s d → IsGood p claim (after s item) (with_item (length p.columns) (length p.rows) item d)
 good_more p claim s d item a h = record {
   claim_is = claim_stays s item ∙ h.claim_is;
   vectors = vectors_more p (length p.columns) (length p.rows) d item h.vectors;
@@ -395,7 +395,7 @@ good_all : (p : Program) (claim : Claim) (s : Place) (d : Draft) (later : List I
 good_all p claim s d [] r h = h
 good_all p claim s d (item ∷ later) r h = good_all p claim (after s item) (with_item (length p.columns) (length p.rows) item d) later r.2 (good_more p claim s d item r.1 h)
 
-good_start : (p : Program) (claim : Claim) → IsGood p claim (start claim) (blank (length p.columns))
+pub good_start : (p : Program) (claim : Claim) → IsGood p claim (start claim) (blank (length p.columns))
 good_start p claim = record {
   claim_is = refl;
   vectors = record { point = zeros_count (length p.columns); ray = zeros_count (length p.columns); direction = zeros_count (length p.columns) };

@@ -134,18 +134,14 @@ rays_stand Multipliers u h e = absurd cc
 
 directions_open : (part : Part) → is_directions part ≡ true → is_ended part ≡ false
 directions_open Ended e = absurd cc
-directions_open part e = other part e
-  where
-    other : (part : Part) → is_directions part ≡ true → is_ended part ≡ false
-    other Directions e = refl
-    other Ended e = absurd cc
-    other Points e = refl
-    other Value e = refl
-    other Rays e = refl
-    other Squares e = refl
-    other Nodes e = refl
-    other LeafPoint e = refl
-    other Multipliers e = refl
+directions_open Directions e = refl
+directions_open Points e = refl
+directions_open Value e = refl
+directions_open Rays e = refl
+directions_open Squares e = refl
+directions_open Nodes e = refl
+directions_open LeafPoint e = refl
+directions_open Multipliers e = refl
 
 squares_open : (part : Part) → is_squares part ≡ true → is_ended part ≡ false
 squares_open Ended e = absurd cc

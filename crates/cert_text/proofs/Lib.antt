@@ -20,3 +20,6 @@ pub mod ReadBack
 pub mod NumbersBack
 pub mod LinesBack
 pub mod Accepts
+pub mod Shown
+pub mod ShownRuns
+pub mod TextBack

@@ -50,20 +50,20 @@ use Rattle.cert_text.proofs.Readings.{claimed}
 end_items : List Item
 end_items = items.End ∷ []
 
-abbrev items_of : Certificate → List Item
+abbrev pub items_of : Certificate → List Item
 items_of (certificates.Optimal x v squares tree) =
     items.Value v ∷ (entries items.Point 0 x ++ (flat_map square_items squares ++ (flat_map node_items tree ++ items.End ∷ [])))
 items_of (certificates.Infeasible tree) = flat_map node_items tree ++ items.End ∷ []
 items_of (certificates.Unbounded x d squares) = entries items.Point 0 x ++ (entries items.Ray 0 d ++ (flat_map square_items squares ++ items.End ∷ []))
 items_of (certificates.NotConvex v) = entries items.Direction 0 v ++ items.End ∷ []
 
-abbrev claim_of : Certificate → Claim
+abbrev pub claim_of : Certificate → Claim
 claim_of (certificates.Optimal x v squares tree) = Optimal
 claim_of (certificates.Infeasible tree) = Infeasible
 claim_of (certificates.Unbounded x d squares) = Unbounded
 claim_of (certificates.NotConvex v) = NotConvex
 
-abbrev claim_word : Claim → List ℕ
+abbrev pub claim_word : Claim → List ℕ
 claim_word Optimal = codes "OPTIMAL"
 claim_word Infeasible = codes "INFEASIBLE"
 claim_word Unbounded = codes "UNBOUNDED"
@@ -124,7 +124,7 @@ node_fields p (n ∷ ns) h =
 behind : (p : Program) (a b : Lines) (xs ys : List Item) → a ≡ fields p xs → b ≡ fields p ys → a ++ b ≡ fields p (xs ++ ys)
 behind p a b xs ys e f = ap (λ (l : Lines). l ++ b) e ∙ ap (λ (l : Lines). fields p xs ++ l) f ∙ sym (fields_append p xs ys)
 
-all_fields : (p : Program) (c : Certificate) → IsWritable p c → certificate_lines p c ≡ (claim_word (claim_of c) ∷ []) ∷ fields p (items_of c)
+pub all_fields : (p : Program) (c : Certificate) → IsWritable p c → certificate_lines p c ≡ (claim_word (claim_of c) ∷ []) ∷ fields p (items_of c)
 all_fields p (certificates.Optimal x v squares tree) h =
     let points = entries_fields p Columns (codes "POINT") items.Point (λ j v. refl) 0 x (column_count p x h.fitting.0) in
     let tail = behind p (flat_map (node_lines p) tree) end_line (flat_map node_items tree) (items.End ∷ []) (node_fields p tree h.fitting.2.nodes_fit) refl in
@@ -144,7 +144,7 @@ all_fields p (certificates.NotConvex v) h =
     ap (λ (l : Lines). (codes "NOTCONVEX" ∷ []) ∷ l)
     (behind p (entry_lines (codes "VECTOR") (names_on p Columns) v) end_line (entries items.Direction 0 v) (items.End ∷ []) (entries_fields p Columns (codes "VECTOR") items.Direction (λ j v. refl) 0 v (column_count p v h.fitting)) refl)
 
-lines_of_items : (p : Program) (is : List Item) → lines_text (fields p is) ≡ flat_map (item_text p) is
+pub lines_of_items : (p : Program) (is : List Item) → lines_text (fields p is) ≡ flat_map (item_text p) is
 lines_of_items p [] = refl
 lines_of_items p (i ∷ is) = ap (λ (t : List ℕ). item_text p i ++ t) (lines_of_items p is)
 

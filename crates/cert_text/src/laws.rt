@@ -18,10 +18,15 @@ pub fn numbers_are_read_back()
     ensures fits { (bytes : List ℕ) (v : ℚ) → number_of bytes ≡ Ok v → Fits max_part v }
 {}
 
-/// The text of a certificate is read as that certificate, whatever number its first line has. So it is the text of no other.
+/// The text of a certificate is read as that certificate, whatever number its first line has. So it is the text of no other. And a
+/// text that is read as a certificate is the text of that one.
 pub fn texts_are_read_back()
     ensures back { (p : Program) (c : Certificate) (line : ℕ) → IsProgram p → IsWritable p c → NumbersFit c →
         read_of p line (certificate_text p c) ≡ Ok c }
     ensures one { (p : Program) (c other : Certificate) → IsProgram p → IsWritable p c → NumbersFit c →
         IsWritable p other → NumbersFit other → certificate_text p c ≡ certificate_text p other → c ≡ other }
+    ensures text { (p : Program) (line : ℕ) (text : List ℕ) (c : Certificate) → read_of p line text ≡ Ok c →
+        certificate_text p c ≡ text }
+    ensures writable { (p : Program) (line : ℕ) (text : List ℕ) (c : Certificate) → read_of p line text ≡ Ok c →
+        IsWritable p c }
 {}

@@ -3,6 +3,7 @@
 ghost use Rattle.std.specs.Prelude.{◌≡◌, ◌≤◌, ◌^◌, ◌+◌, [], length, IfOk};
 ghost use Rattle.cert_text.specs.Parts.{pieces_of};
 ghost use Rattle.cert_text.specs.Reading.{claim_in, read_on, read_of, Reads};
+ghost use Rattle.cert_text.specs.Text.{certificate_text};
 ghost use Rattle.cert_text.specs.Writable.{IsWritable};
 
 use crate::draft::Draft;
@@ -87,12 +88,12 @@ fn read_text(alloc: Global, p: &Program, text: &[u8], line: u32) -> Result<Certi
     read_claimed(alloc, p, claim, rest, line + 1)
 }
 
-/// The certificate of a text for a program. `line` is the number of the text's first line. What is read can be written, and so it
-/// can be checked.
+/// The certificate of a text for a program. `line` is the number of the text's first line. The text is the one that
+/// `write_certificate` writes of it, and its lengths, columns and signs are those of a certificate of the program.
 ///
 /// # Errors
 /// `Fault` with the first line at which the text leaves the grammar and how, or `Memory`.
-#[tactic(auto, using(crate::proofs::Accepts::all_writable))]
+#[tactic(auto, using(crate::proofs::Accepts::all_writable, crate::proofs::TextBack::all_texts))]
 pub fn read_certificate(
     alloc: Global,
     p: &Program,
@@ -102,6 +103,7 @@ pub fn read_certificate(
     requires text { length text.now ≤ 2 ^ 30 }
     requires line { line ≤ 2 ^ 31 }
     ensures exact { Reads (read_of p.now line text.now) result }
+    ensures text { IfOk result (λ c. certificate_text p.now c ≡ text.now) }
     ensures writable { IfOk result (λ c. IsWritable p.now c) }
 {
     read_text(alloc, p, text, line)

@@ -3,7 +3,7 @@ use Rattle.std.proofs.Common.{◌≡◌, ℕ, Bool, true, false, Option, Some, N
 use Rattle.mps_grammar.specs.declared.kinds.FaultKind.{FaultKind}
 use Rattle.mps_grammar.specs.declared.kinds.FaultKind.TheVariants as kinds
 use Rattle.mps_grammar.specs.Told.{Told}
-use Rattle.mps_grammar.specs.Programs.{first_line, is_range_past, is_lopsided, gives_pairs_once, fault_at, range_fault, pair_fault, end_fault}
+use Rattle.mps_grammar.specs.Programs.{first_line, is_lopsided, gives_pairs_once, fault_at, range_fault, pair_fault, end_fault}
 use Rattle.mps_reader.proofs.Pairs.{IsLevel, or_other-none}
 
 no_line : (kind : FaultKind) (o : Option ℕ) → fault_at kind o ≡ None → o ≡ None

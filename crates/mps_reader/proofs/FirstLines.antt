@@ -1,17 +1,15 @@
 -- The first line with such a number, among tellings with the last one first.
-use Rattle.std.proofs.Common.{◌≡◌, ℕ, zero, suc, ◌+◌, ◌<◌, Bool, true, false, List, [], ◌∷◌, ◌++◌, map, reverse, take, drop, replicate, length, get_or, Option, Some, None, refl, sym, ap, subst, ◌∙◌, arith, if◌then◌else◌, ◌&&◌, not}
+use Rattle.std.proofs.Common.{◌≡◌, ℕ, zero, suc, ◌+◌, ◌<◌, Bool, true, false, List, [], ◌∷◌, ◌++◌, map, reverse, take, drop, replicate, length, get_or, Option, Some, None, refl, sym, ap, subst, ◌∙◌, arith, if◌then◌else◌, ◌&&◌}
 use Rattle.std.specs.Prelude.{slice_get, unwrap_or}
 use Rattle.std.specs.Str.{bytes_eq}
 use Rattle.std.proofs.lemmas.List.{map-append, reverse-append, take-append-drop, get_or-map}
 use Rattle.rational.specs.Rational.{ℚ, zero_ℚ}
-use Rattle.rational.specs.Order.{same_fields}
-use Rattle.program_law.specs.Tests.{is_zero}
 use Rattle.program_law.specs.Changes.{with_place}
 use Rattle.program_law.specs.Places.{place_of}
 use Rattle.mps_tokens.specs.declared.words.RowKind.{RowKind}
 use Rattle.mps_tokens.specs.Cases.{named}
 use Rattle.mps_grammar.specs.Told.{Told, Telling, names_of}
-use Rattle.mps_grammar.specs.Programs.{or_other, first_line, value_at, value_told, makes_past, is_range_past, is_lopsided}
+use Rattle.mps_grammar.specs.Programs.{or_other, first_line, value_at, value_told, makes_past, is_range_past}
 use Rattle.mps_lines.specs.declared.numbers.Entry.{Entry}
 use Rattle.mps_lines.specs.Names.{Differ, name_at}
 use Rattle.mps_lines.specs.Told.{telling_of, tellings_of, IsEntry, AreEntries}

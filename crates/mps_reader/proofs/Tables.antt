@@ -1,10 +1,8 @@
 -- Lists over the same names that differ at one name alone.
 use Rattle.std.proofs.Common.{◌≡◌, ℕ, zero, suc, Bool, true, false, cond, List, [], ◌∷◌, map, get_or, set, Option, Some, None, refl, ap, ◌∙◌}
-use Rattle.std.specs.Prelude.{slice_get}
 use Rattle.std.specs.Option.{option_map}
 use Rattle.std.specs.Str.{bytes_eq}
 use Rattle.program_law.specs.Places.{place_of}
-use Rattle.program_law.specs.Changes.{renewed}
 use Rattle.mps_lines.specs.Names.{Differ}
 use Rattle.mps_lines.proofs.NameLemmas.{absent_parts, eq_from}
 
