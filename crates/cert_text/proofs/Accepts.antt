@@ -1,14 +1,13 @@
 -- A text that is read is that of items which are accepted one after another, and tell a certificate that can be written.
-use Rattle.std.proofs.Common.{◌≡◌, ◌≢◌, ℕ, zero, suc, ◌+◌, ◌-◌, ◌*◌, ◌^◌, ◌<◌, ◌≤◌, Bool, true, false, cond, List, [], ◌∷◌, ◌++◌, length, set, Option, Some, None, Result, Ok, Err, refl, sym, ap, ◌∙◌, subst, arith, lit<, lit≤, append_assoc, ℤ, pos}
-use Rattle.std.specs.Prelude.{◌&&◌, ◌==◌, not, nat_le, unsigned_abs, neg_ℤ, IfOk, if◌then◌else◌}
-use Rattle.std.specs.List.{flat_map, slice_split, join_with_byte, AllByRecursion}
+use Rattle.std.proofs.Common.{◌≡◌, ◌≢◌, ℕ, zero, suc, ◌+◌, ◌*◌, ◌^◌, ◌<◌, ◌≤◌, Bool, true, false, List, [], ◌∷◌, ◌++◌, length, Option, Some, None, Result, Ok, Err, refl, sym, ap, ◌∙◌, subst, arith, lit<, append_assoc, ℤ, pos}
+use Rattle.std.specs.Prelude.{◌&&◌, ◌==◌, nat_le, unsigned_abs, neg_ℤ, IfOk}
+use Rattle.std.specs.List.{flat_map, join_with_byte, AllByRecursion}
 use Rattle.std.proofs.lemmas.Bool.{eqb-true}
 use Rattle.std.proofs.lemmas.Bool.Decides.{nat_tests}
-use Rattle.std.proofs.lemmas.Int.{ints}
 use Rattle.std.proofs.lemmas.List.{length-set, length_push}
 use Rattle.std.proofs.lemmas.List.Splits.{join_with_byte-slice_split}
 use Rattle.std.proofs.Math.Nat.{lt_of_le_of_lt}
-use Rattle.rational.specs.Rational.{ℚ, zero_ℚ}
+use Rattle.rational.specs.Rational.{ℚ}
 use Rattle.frac_core.specs.Parts.{max_part}
 use Rattle.program_law.specs.Program.{Program}
 use Rattle.program_law.specs.Changes.{zeros}
@@ -20,7 +19,6 @@ use Rattle.certificate_law.specs.declared.Certificate.{Certificate}
 use Rattle.certificate_law.specs.Nodes.{AreTrees}
 use Rattle.certificate_law.specs.Squares.{ArePositive}
 use Rattle.check_law.specs.Fits.{FitsNode, HasNoBound, IsColumnVector}
-use Rattle.mps_tokens.specs.declared.words.CertificateWord.TheVariants as words
 use Rattle.cert_text.specs.declared.items.Item.{Item}
 use Rattle.cert_text.specs.declared.items.Item.TheVariants as items
 use Rattle.cert_text.specs.declared.items.Claim.{Claim}
@@ -29,18 +27,17 @@ use Rattle.cert_text.specs.declared.kinds.CertKind.{CertKind}
 use Rattle.cert_text.specs.declared.places.Place.{Place}
 use Rattle.cert_text.specs.declared.draft.Draft.{Draft}
 use Rattle.cert_text.specs.Parts.{parts_of, pieces_of}
-use Rattle.cert_text.specs.Text.{line_text, certificate_text}
 use Rattle.cert_text.specs.Places.{start, after, place_after, may_stand, is_ended, is_optimal}
 use Rattle.cert_text.specs.Faults.{line_fault}
-use Rattle.cert_text.specs.Told.{blank, item_of, with_item, with_coef, with_w, with_y, on_last, told_by, certificate_told, IsTreeDue}
-use Rattle.cert_text.specs.Reading.{Answer, is_nil, fault_or, read_on, read_of, read_claimed, read_pieces, claim_in, Reads}
+use Rattle.cert_text.specs.Told.{blank, item_of, with_item, with_coef, with_w, with_y, on_last, told_by, certificate_told}
+use Rattle.cert_text.specs.Reading.{Answer, read_on, read_of, read_claimed, read_pieces, claim_in, Reads}
 use Rattle.cert_text.specs.declared.kinds.CertStop.{CertStop}
 use Rattle.cert_text.specs.History.{Tracks}
 use Rattle.cert_text.specs.Writable.{IsWritable, branch_count}
 use Rattle.cert_text.proofs.Histories.{item_word, tracks, is_tree, start_tracked}
 use Rattle.cert_text.proofs.ItemFields.{fields_of, Accepted}
 use Rattle.cert_text.proofs.ItemRuns.{MayBound}
-use Rattle.cert_text.proofs.LinesBack.{IsBack, line_back}
+use Rattle.cert_text.proofs.LinesBack.{line_back}
 use Rattle.cert_text.proofs.TextsRead.{Runs, after_all, tell_all, item_text}
 
 pub record IsAccepted (p : Program) (claim : Claim) (earlier : List Item) (pieces : List (List ℕ)) (c : Certificate) : Type 0 where

@@ -8,7 +8,7 @@ use Rattle.program_law.specs.declared.Square.{Square}
 use Rattle.certificate_law.specs.declared.Node.{Node}
 use Rattle.certificate_law.specs.declared.Certificate.TheVariants.{Optimal, Infeasible}
 use Rattle.cert_text.specs.declared.names.Axis.TheVariants.{Columns}
-use Rattle.cert_text.specs.Text.{Lines, names_on, line_text, lines_text, entry_lines, square_lines, node_lines, end_line, certificate_lines}
+use Rattle.cert_text.specs.Text.{names_on, line_text, lines_text, entry_lines, square_lines, node_lines, end_line, certificate_lines}
 use Rattle.cert_text.proofs.Appended.{lines_append, continued}
 use Rattle.cert_text.specs.Appending.{Appends}
 

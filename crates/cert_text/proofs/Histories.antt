@@ -2,7 +2,7 @@
 use Rattle.std.proofs.Common.{◌≡◌, ℕ, zero, suc, ◌+◌, ◌-◌, ◌<◌, ◌≤◌, Bool, true, false, List, [], ◌∷◌, ◌++◌, length, Option, Some, None, refl, sym, ap, ◌∙◌, subst, arith, ℤ}
 use Rattle.rational.specs.Rational.{ℚ}
 use Rattle.program_law.specs.Changes.{zeros}
-use Rattle.std.specs.Prelude.{◌==◌, ◌&&◌, ◌^◌, not, nat_lt}
+use Rattle.std.specs.Prelude.{◌&&◌, ◌^◌, not, nat_lt}
 use Rattle.std.proofs.lemmas.Bool.{eqb-true}
 use Rattle.std.proofs.lemmas.Bool.Decides.{nat_tests}
 use Rattle.program_law.specs.Program.{Program}
@@ -16,13 +16,11 @@ use Rattle.cert_text.specs.declared.items.Item.{Item}
 use Rattle.cert_text.specs.declared.items.Item.TheVariants as items
 use Rattle.cert_text.specs.declared.items.Claim.{Claim}
 use Rattle.cert_text.specs.declared.items.Claim.TheVariants.{Optimal, Infeasible, Unbounded, NotConvex}
-use Rattle.cert_text.specs.declared.kinds.CertKind.{CertKind}
-use Rattle.cert_text.specs.declared.kinds.CertKind.TheVariants as kinds
 use Rattle.cert_text.specs.declared.places.Place.{Place}
 use Rattle.cert_text.specs.declared.draft.Draft.{Draft}
-use Rattle.cert_text.specs.Places.{after, may_stand, is_ended, is_value, wants_node, start, place_after, IsCounted, HasRoom}
-use Rattle.cert_text.specs.Faults.{Tests, first_of, tests, fault_of_word, line_fault, word_of, behind}
-use Rattle.cert_text.specs.Told.{item_with, item_of, with_item, with_w, with_y, on_last, told_by, blank, IsTreeDue}
+use Rattle.cert_text.specs.Places.{after, may_stand, is_ended, is_value, wants_node, start, IsCounted, HasRoom}
+use Rattle.cert_text.specs.Faults.{has_fields, Tests, first_of, tests, fault_of_word, line_fault, word_of, behind}
+use Rattle.cert_text.specs.Told.{item_with, item_of, with_item, with_w, with_y, on_last, blank, IsTreeDue}
 use Rattle.cert_text.specs.History.{IsTracked, Tracks, IsHeld}
 
 abbrev pub item_word : Item → CertificateWord
@@ -61,19 +59,19 @@ stands_with p s (Some words.Optimal) fields e = absurd cc
 stands_with p s (Some words.Infeasible) fields e = absurd cc
 stands_with p s (Some words.Unbounded) fields e = absurd cc
 stands_with p s (Some words.NotConvex) fields e = absurd cc
-stands_with p s (Some words.Value) fields e = both (may_stand s words.Value) (length fields == 1) (none_first (tests p s words.Value fields) e)
-stands_with p s (Some words.Point) fields e = both (may_stand s words.Point) (length fields == 2) (none_first (tests p s words.Point fields) e)
-stands_with p s (Some words.Ray) fields e = both (may_stand s words.Ray) (length fields == 2) (none_first (tests p s words.Ray fields) e)
-stands_with p s (Some words.Vector) fields e = both (may_stand s words.Vector) (length fields == 2) (none_first (tests p s words.Vector fields) e)
-stands_with p s (Some words.Square) fields e = both (may_stand s words.Square) (length fields == 1) (none_first (tests p s words.Square fields) e)
-stands_with p s (Some words.Coef) fields e = both (may_stand s words.Coef) (length fields == 2) (none_first (tests p s words.Coef fields) e)
-stands_with p s (Some words.Branch) fields e = both (may_stand s words.Branch) (length fields == 2) (none_first (tests p s words.Branch fields) e)
-stands_with p s (Some words.Bound) fields e = both (may_stand s words.Bound) (length fields == 0) (none_first (tests p s words.Bound fields) e)
-stands_with p s (Some words.Farkas) fields e = both (may_stand s words.Farkas) (length fields == 0) (none_first (tests p s words.Farkas fields) e)
-stands_with p s (Some words.Cross) fields e = both (may_stand s words.Cross) (length fields == 1) (none_first (tests p s words.Cross fields) e)
-stands_with p s (Some words.W) fields e = both (may_stand s words.W) (length fields == 2) (none_first (tests p s words.W fields) e)
-stands_with p s (Some words.Y) fields e = both (may_stand s words.Y) (length fields == 2) (none_first (tests p s words.Y fields) e)
-stands_with p s (Some words.End) fields e = both (may_stand s words.End) (length fields == 0) (none_first (tests p s words.End fields) e)
+stands_with p s (Some words.Value) fields e = both (may_stand s words.Value) (has_fields 1 fields) (none_first (tests p s words.Value fields) e)
+stands_with p s (Some words.Point) fields e = both (may_stand s words.Point) (has_fields 2 fields) (none_first (tests p s words.Point fields) e)
+stands_with p s (Some words.Ray) fields e = both (may_stand s words.Ray) (has_fields 2 fields) (none_first (tests p s words.Ray fields) e)
+stands_with p s (Some words.Vector) fields e = both (may_stand s words.Vector) (has_fields 2 fields) (none_first (tests p s words.Vector fields) e)
+stands_with p s (Some words.Square) fields e = both (may_stand s words.Square) (has_fields 1 fields) (none_first (tests p s words.Square fields) e)
+stands_with p s (Some words.Coef) fields e = both (may_stand s words.Coef) (has_fields 2 fields) (none_first (tests p s words.Coef fields) e)
+stands_with p s (Some words.Branch) fields e = both (may_stand s words.Branch) (has_fields 2 fields) (none_first (tests p s words.Branch fields) e)
+stands_with p s (Some words.Bound) fields e = both (may_stand s words.Bound) (has_fields 0 fields) (none_first (tests p s words.Bound fields) e)
+stands_with p s (Some words.Farkas) fields e = both (may_stand s words.Farkas) (has_fields 0 fields) (none_first (tests p s words.Farkas fields) e)
+stands_with p s (Some words.Cross) fields e = both (may_stand s words.Cross) (has_fields 1 fields) (none_first (tests p s words.Cross fields) e)
+stands_with p s (Some words.W) fields e = both (may_stand s words.W) (has_fields 2 fields) (none_first (tests p s words.W fields) e)
+stands_with p s (Some words.Y) fields e = both (may_stand s words.Y) (has_fields 2 fields) (none_first (tests p s words.Y fields) e)
+stands_with p s (Some words.End) fields e = both (may_stand s words.End) (has_fields 0 fields) (none_first (tests p s words.End fields) e)
 
 pub stands : (p : Program) (s : Place) (parts : List (List ℕ)) → line_fault p s parts ≡ None → may_stand s (item_word (item_of p parts)) ≡ true
 unfolding line_fault item_of

@@ -1,5 +1,5 @@
 -- The fields of an item, and what is asked of an item at its place.
-use Rattle.std.proofs.Common.{◌≡◌, ◌≢◌, ℕ, ◌<◌, ◌≤◌, Bool, true, false, List, [], ◌∷◌, length, codes}
+use Rattle.std.proofs.Common.{◌≡◌, ◌≢◌, ℕ, ◌<◌, ◌≤◌, true, false, List, [], ◌∷◌, length, codes}
 use Rattle.std.specs.Prelude.{nat_le, unsigned_abs, AllPairs}
 use Rattle.std.specs.Fmt.{signed_decimal}
 use Rattle.rational.specs.Rational.{ℚ, Fits}
@@ -16,6 +16,7 @@ use Rattle.cert_text.specs.declared.items.Item.TheVariants as items
 use Rattle.cert_text.specs.declared.places.Place.{Place}
 use Rattle.cert_text.specs.Text.{names_on, count_on, name_at}
 use Rattle.cert_text.specs.Places.{may_stand, least}
+use Rattle.cert_text.specs.Faults.{is_filled}
 
 abbrev pub column_at : Program → ℕ → List ℕ
 column_at p j = name_at (names_on p Columns) j
@@ -58,6 +59,7 @@ Accepted p s (items.W j v) = IsEntry p Columns s words.W j v
 Accepted p s (items.Y i v) = IsEntry p Rows s words.Y i v
 Accepted p s items.End = may_stand s words.End ≡ true
 
--- no two columns and no two rows have one name
-abbrev pub HasNames : Program → Type 0
-HasNames p = (axis : Axis) → AllPairs (λ a b. a ≢ b) (names_on p axis)
+-- no two columns and no two rows have one name, and no name is empty
+pub record HasNames (p : Program) : Type 0 where
+  pub distinct : (axis : Axis) → AllPairs (λ a b. a ≢ b) (names_on p axis)
+  pub filled : (axis : Axis) (j : ℕ) → j < count_on p axis → is_filled (name_at (names_on p axis) j) ≡ true

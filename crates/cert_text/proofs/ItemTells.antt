@@ -1,8 +1,7 @@
 -- What the items of a certificate tell is the certificate.
-use Rattle.std.proofs.Common.{◌≡◌, ◌≢◌, ℕ, zero, suc, ◌+◌, ◌<◌, ◌≤◌, Bool, true, false, cond, List, [], ◌∷◌, ◌++◌, length, set, refl, sym, ap, ◌∙◌, subst, arith, append_assoc, append-nil, pos}
-use Rattle.std.specs.Prelude.{replicate, if◌then◌else◌}
+use Rattle.std.proofs.Common.{◌≡◌, ℕ, suc, Bool, true, false, List, [], ◌∷◌, ◌++◌, length, set, refl, sym, ap, ◌∙◌, arith, append_assoc, append-nil}
+use Rattle.std.specs.Prelude.{if◌then◌else◌}
 use Rattle.std.specs.List.{flat_map, AllByRecursion}
-use Rattle.std.specs.Ordering.{int_eq}
 use Rattle.std.proofs.lemmas.Int.{ints}
 use Rattle.std.proofs.lemmas.List.{length_push}
 use Rattle.rational.specs.Rational.{ℚ, zero_ℚ}
@@ -17,10 +16,10 @@ use Rattle.check_law.specs.Fits.{FitsNode}
 use Rattle.cert_text.specs.declared.items.Item.{Item}
 use Rattle.cert_text.specs.declared.items.Item.TheVariants as items
 use Rattle.cert_text.specs.declared.draft.Draft.{Draft}
-use Rattle.cert_text.specs.Told.{with_item, with_coef, with_w, with_y, on_last}
+use Rattle.cert_text.specs.Told.{with_item, with_coef, with_w, with_y}
 use Rattle.cert_text.proofs.LastOf.{on_last-append}
 use Rattle.cert_text.proofs.TextsRead.{tell_all}
-use Rattle.cert_text.proofs.ItemRuns.{entry_items, entries, square_items, node_items}
+use Rattle.cert_text.proofs.ItemRuns.{entries, square_items, node_items}
 
 pub tell_append : (p : Program) (d : Draft) (xs ys : List Item) → tell_all p d (xs ++ ys) ≡ tell_all p (tell_all p d xs) ys
 tell_append p d [] ys = refl

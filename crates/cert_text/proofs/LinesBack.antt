@@ -1,19 +1,18 @@
 -- A line that has no fault is the line of its item, which is accepted.
-use Rattle.std.proofs.Common.{◌≡◌, ◌≢◌, ℕ, zero, suc, ◌+◌, ◌<◌, ◌≤◌, Bool, true, false, cond, List, [], ◌∷◌, length, get_or, Option, Some, None, Result, Ok, Err, refl, sym, ap, ◌∙◌, subst, arith, codes, ℤ}
-use Rattle.std.specs.Prelude.{◌&&◌, ◌==◌, not, nat_lt, nat_le, unsigned_abs, is_none, unwrap_or}
+use Rattle.std.proofs.Common.{◌≡◌, ℕ, zero, suc, ◌<◌, ◌≤◌, Bool, true, false, cond, List, [], ◌∷◌, length, Option, Some, None, Result, Ok, Err, refl, sym, ap, ◌∙◌, subst, arith, codes}
+use Rattle.std.specs.Prelude.{◌&&◌, ◌==◌, not, is_none, unwrap_or}
 use Rattle.std.specs.Option.{option_map}
+use Rattle.std.specs.List.{list_all}
 use Rattle.std.specs.Str.{bytes_eq}
 use Rattle.std.specs.Fmt.{signed_decimal}
 use Rattle.std.proofs.lemmas.Bool.{eqb-true}
 use Rattle.std.proofs.lemmas.Bool.Decides.{nat_tests}
 use Rattle.std.proofs.lemmas.Slice.Eq.{bytes_eq-Decides}
-use Rattle.rational.specs.Rational.{ℚ, Fits}
-use Rattle.rational.proofs.Wholes.{as_whole, den-whole}
-use Rattle.frac_core.specs.Parts.{max_part}
+use Rattle.rational.specs.Rational.{ℚ}
 use Rattle.frac_core.specs.Text.{text_of}
 use Rattle.program_law.specs.Program.{Program}
 use Rattle.program_law.specs.Places.{place_of}
-use Rattle.program_law.specs.Tests.{is_zero, is_positive}
+use Rattle.program_law.specs.Tests.{is_zero}
 use Rattle.mps_tokens.specs.declared.fault.NumberFault.{NumberFault}
 use Rattle.mps_tokens.specs.declared.words.CertificateWord.{CertificateWord}
 use Rattle.mps_tokens.specs.declared.words.CertificateWord.TheVariants as words
@@ -24,13 +23,11 @@ use Rattle.cert_text.specs.declared.names.Axis.TheVariants.{Columns, Rows}
 use Rattle.cert_text.specs.declared.fields.Allowed.{Allowed}
 use Rattle.cert_text.specs.declared.fields.Allowed.TheVariants.{Any, NotZero, Positive, Whole}
 use Rattle.cert_text.specs.declared.items.Item.{Item}
-use Rattle.cert_text.specs.declared.items.Item.TheVariants as items
-use Rattle.cert_text.specs.declared.kinds.CertKind.{CertKind}
 use Rattle.cert_text.specs.declared.places.Place.{Place}
 use Rattle.cert_text.specs.Numbers.{number_of}
 use Rattle.cert_text.specs.Text.{names_on, count_on, name_at}
 use Rattle.cert_text.specs.Places.{may_stand, least, is_one_too_many}
-use Rattle.cert_text.specs.Faults.{Tests, first_of, field, allows, is_allowed, is_early, bare_tests, number_tests, name_tests, entry_tests, tests, fault_of_word, line_fault, word_of, behind}
+use Rattle.cert_text.specs.Faults.{has_fields, is_filled, Tests, first_of, field, allows, is_allowed, is_early, bare_tests, number_tests, name_tests, entry_tests, tests, fault_of_word, line_fault}
 use Rattle.cert_text.specs.Told.{item_of, item_with, place, number}
 use Rattle.cert_text.proofs.NameLemmas.{count_names}
 use Rattle.cert_text.proofs.NumbersBack.{IsTextOf, number_back}
@@ -59,6 +56,13 @@ holds true e = refl
 holds false e = absurd cc
 
 -- ---- fields
+
+count_of : (n : ℕ) (fs : List (List ℕ)) → has_fields n fs ≡ true → (length fs == n) ≡ true
+count_of n fs e = go (length fs == n) e
+  where
+    go : (t : Bool) → (t && list_all is_filled fs) ≡ true → t ≡ true
+    go true e = refl
+    go false e = absurd cc
 
 no_fields : (fs : List (List ℕ)) → (length fs == 0) ≡ true → fs ≡ []
 no_fields [] e = refl
@@ -124,8 +128,8 @@ pub record IsBare (s : Place) (word : CertificateWord) (fs : List (List ℕ)) : 
 
 bare_back : (s : Place) (word : CertificateWord) (fs : List (List ℕ)) → first_of (bare_tests s word fs) ≡ None → IsBare s word fs
 bare_back s word fs e =
-    let b = both_hold (may_stand s word) (length fs == 0) (none_holds (bare_tests s word fs) 0 e) in
-    record { stands = b.0; none = no_fields fs b.1 }
+    let b = both_hold (may_stand s word) (has_fields 0 fs) (none_holds (bare_tests s word fs) 0 e) in
+    record { stands = b.0; none = no_fields fs (count_of 0 fs b.1) }
 
 pub record IsNumbered (s : Place) (word : CertificateWord) (allowed : Allowed) (fs : List (List ℕ)) : Type 0 where
   pub stands : may_stand s word ≡ true
@@ -136,8 +140,8 @@ pub record IsNumbered (s : Place) (word : CertificateWord) (allowed : Allowed) (
 number_tests_back : (s : Place) (word : CertificateWord) (allowed : Allowed) (fs : List (List ℕ)) → first_of (number_tests s word allowed fs) ≡ None → IsNumbered s word allowed fs
 number_tests_back s word allowed fs e =
     let ts = number_tests s word allowed fs in
-    let b = both_hold (may_stand s word) (length fs == 1) (none_holds ts 0 e) in
-    record { stands = b.0; one = one_field fs b.1; spelt = spelt_back allowed (field fs 0) (holds (is_allowed allowed (number_of (field fs 0))) (none_holds ts 2 e)); few = none_holds ts 3 e }
+    let b = both_hold (may_stand s word) (has_fields 1 fs) (none_holds ts 0 e) in
+    record { stands = b.0; one = one_field fs (count_of 1 fs b.1); spelt = spelt_back allowed (field fs 0) (holds (is_allowed allowed (number_of (field fs 0))) (none_holds ts 2 e)); few = none_holds ts 3 e }
 
 pub record IsNameLine (s : Place) (word : CertificateWord) (names : List (List ℕ)) (fs : List (List ℕ)) : Type 0 where
   pub stands : may_stand s word ≡ true
@@ -147,8 +151,8 @@ pub record IsNameLine (s : Place) (word : CertificateWord) (names : List (List �
 name_tests_back : (s : Place) (word : CertificateWord) (names : List (List ℕ)) (fs : List (List ℕ)) → first_of (name_tests s word names fs) ≡ None → IsNameLine s word names fs
 name_tests_back s word names fs e =
     let ts = name_tests s word names fs in
-    let b = both_hold (may_stand s word) (length fs == 1) (none_holds ts 0 e) in
-    record { stands = b.0; one = one_field fs b.1; named_is = named_back names (field fs 0) (none_holds ts 1 e) }
+    let b = both_hold (may_stand s word) (has_fields 1 fs) (none_holds ts 0 e) in
+    record { stands = b.0; one = one_field fs (count_of 1 fs b.1); named_is = named_back names (field fs 0) (none_holds ts 1 e) }
 
 pub record IsEntryLine (s : Place) (word : CertificateWord) (names : List (List ℕ)) (allowed : Allowed) (fs : List (List ℕ)) : Type 0 where
   pub stands : may_stand s word ≡ true
@@ -165,10 +169,10 @@ late_from least (Some k) e f = grind (arith, nat_tests)
 entry_tests_back : (s : Place) (word : CertificateWord) (names : List (List ℕ)) (allowed : Allowed) (fs : List (List ℕ)) → first_of (entry_tests s word names allowed fs) ≡ None → IsEntryLine s word names allowed fs
 entry_tests_back s word names allowed fs e =
     let ts = entry_tests s word names allowed fs in
-    let b = both_hold (may_stand s word) (length fs == 2) (none_holds ts 0 e) in
+    let b = both_hold (may_stand s word) (has_fields 2 fs) (none_holds ts 0 e) in
     record {
       stands = b.0;
-      two = two_fields fs b.1;
+      two = two_fields fs (count_of 2 fs b.1);
       named_is = named_back names (field fs 0) (none_holds ts 1 e);
       spelt = spelt_back allowed (field fs 1) (holds (is_allowed allowed (number_of (field fs 1))) (none_holds ts 3 e));
       late = late_from (least s word) (place_of names (field fs 0)) (none_holds ts 1 e) (none_holds ts 4 e);

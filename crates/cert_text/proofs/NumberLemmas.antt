@@ -1,12 +1,12 @@
 -- Numbers by their numerals.
-use Rattle.std.proofs.Common.{◌≡◌, ◌≢◌, ℕ, zero, suc, ◌+◌, ◌<◌, ◌≤◌, Bool, true, false, List, [], ◌∷◌, ◌++◌, length, take, drop, Some, None, Result, Ok, Err, refl, sym, ap, ◌∙◌, subst, arith, lit<, lit≤, pos, ℤ, codes, to_z, of_z}
-use Rattle.std.specs.Prelude.{◌&&◌, ◌||◌, ◌==◌, not, nat_lt, if◌then◌else◌}
+use Rattle.std.proofs.Common.{◌≡◌, ◌≢◌, ℕ, zero, suc, ◌≤◌, Bool, true, false, List, Result, Ok, Err, refl, sym, ap, ◌∙◌, arith, pos, ℤ, codes, to_z, of_z}
+use Rattle.std.specs.Prelude.{◌&&◌, ◌==◌, nat_lt, if◌then◌else◌}
 use Rattle.std.specs.Int.{w128}
-use Rattle.std.specs.List.{list_any, position_or_len, before_first, after_first}
+use Rattle.std.specs.List.{list_any, before_first, after_first}
 use Rattle.std.specs.Str.{bytes_eq}
 use Rattle.std.specs.Str.Parse.{digits_value}
 use Rattle.std.proofs.lemmas.Int.{ints}
-use Rattle.std.proofs.lemmas.Bool.{eq-eqb, ne_eqb, eqb-true}
+use Rattle.std.proofs.lemmas.Bool.{eq-eqb, ne_eqb}
 use Rattle.std.proofs.lemmas.Bool.Decides.{nat_tests}
 use Rattle.std.proofs.lemmas.Slice.Eq.{bytes_eq-Decides}
 use Rattle.rational.specs.Rational.{ℚ, fraction, whole}
@@ -17,10 +17,10 @@ use Rattle.frac_core.specs.Parts.{max_part}
 use Rattle.frac_core.specs.Signed.{signed}
 use Rattle.frac_core.specs.Quotient.{parts_of}
 use Rattle.mps_tokens.specs.declared.fault.NumberFault.{NumberFault}
-use Rattle.mps_tokens.specs.declared.fault.NumberFault.TheVariants.{NotNumber, Past}
+use Rattle.mps_tokens.specs.declared.fault.NumberFault.TheVariants.{NotNumber}
 use Rattle.mps_tokens.proofs.PowerValues.{made, same_ok}
 use Rattle.cert_text.specs.Parts.{is_byte}
-use Rattle.cert_text.specs.Numbers.{is_numeral, is_denominator, is_negative, without_minus, has_slash, top_of, bottom_of, has_shape, top_value, bottom_value, lowest_number, number_from, number_of}
+use Rattle.cert_text.specs.Numbers.{is_numeral, is_denominator, is_negative, without_minus, has_slash, top_of, bottom_of, has_shape, top_value, lowest_number, number_from, number_of}
 
 chosen : (t : Bool) (v : ℚ) → t ≡ true → (if t then Ok v else Err NotNumber) ≡ Ok v
 chosen t v e = rw e refl

@@ -1,12 +1,12 @@
 -- The text of a number that fits is read as that number.
-use Rattle.std.proofs.Common.{◌≡◌, ◌≢◌, ℕ, zero, suc, ◌+◌, ◌^◌, ◌<◌, ◌≤◌, Bool, true, false, List, [], ◌∷◌, ◌++◌, length, drop, get_or, append-nil, Result, Ok, Err, refl, sym, ap, ◌∙◌, subst, arith, lit<, lit≤, codes, ℤ, pos, negsuc}
-use Rattle.std.specs.Prelude.{◌&&◌, ◌==◌, not, nat_lt, unsigned_abs, if◌then◌else◌}
-use Rattle.std.specs.List.{list_all, list_any, before_first, after_first}
+use Rattle.std.proofs.Common.{◌≡◌, ◌≢◌, ℕ, zero, suc, ◌^◌, ◌<◌, ◌≤◌, Bool, true, false, List, [], ◌∷◌, ◌++◌, get_or, append-nil, Ok, Err, refl, sym, ap, ◌∙◌, arith, lit<, codes, ℤ, pos, negsuc}
+use Rattle.std.specs.Prelude.{◌&&◌, ◌==◌, unsigned_abs, if◌then◌else◌}
+use Rattle.std.specs.List.{list_all}
 use Rattle.std.specs.Char.{is_ascii_digit}
 use Rattle.std.specs.Str.{bytes_eq}
 use Rattle.std.specs.Str.Parse.{digits_value}
 use Rattle.std.specs.Fmt.{decimal, signed_decimal}
-use Rattle.std.proofs.lemmas.Bool.{ne_eqb, eq-eqb, eqb-true}
+use Rattle.std.proofs.lemmas.Bool.{eq-eqb, eqb-true}
 use Rattle.std.proofs.lemmas.Bool.Decides.{nat_tests}
 use Rattle.std.proofs.lemmas.Slice.Eq.{bytes_eq-Decides}
 use Rattle.std.proofs.lemmas.Fmt.{decimal_digit}
@@ -17,12 +17,10 @@ use Rattle.rational.proofs.Wholes.{as_whole}
 use Rattle.frac_core.specs.Parts.{max_part}
 use Rattle.frac_core.specs.Signed.{signed}
 use Rattle.frac_core.specs.Text.{text_of}
-use Rattle.mps_tokens.specs.declared.fault.NumberFault.{NumberFault}
-use Rattle.mps_tokens.specs.declared.fault.NumberFault.TheVariants.{NotNumber, Past}
-use Rattle.cert_text.specs.Parts.{is_byte}
+use Rattle.mps_tokens.specs.declared.fault.NumberFault.TheVariants.{NotNumber}
 use Rattle.cert_text.specs.Numbers.{is_numeral, is_denominator, is_negative, without_minus, lowest_number, number_from, number_of}
 use Rattle.cert_text.proofs.NumberLemmas.{not_above, whole_lowest, zero_number, without_slash, with_slash}
-use Rattle.cert_text.proofs.NumberTexts.{IsPlain, plain_numeral, plain_pos, decimal_plain, decimal_value, digits_no_slash, slash_before, slash_behind, slash_there, alone_without}
+use Rattle.cert_text.proofs.NumberTexts.{IsPlain, plain_numeral, decimal_plain, decimal_value, digits_no_slash, slash_before, slash_behind, slash_there, alone_without}
 
 -- ---- a sign and digits
 

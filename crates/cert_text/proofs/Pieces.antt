@@ -1,14 +1,14 @@
 -- The pieces of bytes between the places of one byte.
-use Rattle.std.proofs.Common.{◌≡◌, ℕ, ◌+◌, ◌-◌, ◌<◌, ◌≤◌, Bool, true, false, cond, List, [], ◌∷◌, length, take, drop, Option, Some, None, refl, ◌∙◌, ap, inl, inr, arith}
-use Rattle.std.specs.Prelude.{◌==◌}
+use Rattle.std.proofs.Common.{◌≡◌, ◌≢◌, ℕ, ◌+◌, ◌-◌, ◌<◌, ◌≤◌, Bool, true, false, cond, List, [], ◌∷◌, length, take, drop, Some, None, refl, sym, ◌∙◌, inl, inr, arith}
+use Rattle.std.specs.Prelude.{◌==◌, ◌&&◌, ◌||◌, not}
 use Rattle.std.specs.List.{slice_split, onto_first, position, position_or_len, list_any, before_first, All}
-use Rattle.std.proofs.lemmas.Bool.{cases_lt, lt-ltb, le-ltb, ne_eqb}
+use Rattle.std.proofs.lemmas.Bool.{cases_lt, lt-ltb, le-ltb, ne_eqb, eqb-true}
 use Rattle.std.proofs.lemmas.List.{take_rest, take_all}
 use Rattle.std.proofs.lemmas.List.Splits.{slice_split_first, slice_split_none, length-slice_split}
 use Rattle.std.proofs.lemmas.List.Folds.{list_any_none, list_any_at}
 use Rattle.std.proofs.lemmas.List.Sums.{fails_before_first, passes_at_first}
 use Rattle.cert_text.specs.Parts.{is_byte, parts_of}
-use Rattle.cert_text.specs.Faults.{behind}
+use Rattle.cert_text.specs.Faults.{behind, is_filled, has_fields}
 
 found_at : {X : Type 0} (p : X → Bool) (xs : List X) (at : ℕ) → position p xs ≡ Some at → (position_or_len p xs ≡ at) × (at < length xs)
 found_at p xs at e = elim (cases_lt (position_or_len p xs) (length xs)) [
@@ -72,14 +72,57 @@ split_has_first byte (x ∷ xs) = cond_has (is_byte byte x) ([] ∷ slice_split 
 some_parts : (line : List ℕ) → 0 < length (parts_of line)
 some_parts line = omega (arith, length-slice_split (is_byte 32) line)
 
-pub not_one : (line one rest : List ℕ) → parts_of line ≡ one ∷ parts_of rest → (length (behind (parts_of line)) == 0) ≡ false
-not_one line one rest e = rw e (ne_eqb (length (parts_of rest)) 0 (λ n. absurd (omega (arith, some_parts rest, n))))
+another_count : (n : ℕ) (fields : List (List ℕ)) → length fields ≢ n → has_fields n fields ≡ false
+another_count n fields h = rw (ne_eqb (length fields) n h) refl
 
-pub not_two : (line one two rest behind_one : List ℕ) → parts_of line ≡ one ∷ parts_of behind_one → parts_of behind_one ≡ two ∷ parts_of rest → (length (behind (parts_of line)) == 1) ≡ false
-not_two line one two rest behind_one e f =
-    rw (e, f) (ne_eqb (length (two ∷ parts_of rest)) 1 (λ n. absurd (omega (arith, some_parts rest, n))))
+pub not_one : (line one rest : List ℕ) → parts_of line ≡ one ∷ parts_of rest → has_fields 0 (behind (parts_of line)) ≡ false
+not_one line one rest e = rw e (another_count 0 (parts_of rest) (λ n. absurd (omega (arith, some_parts rest, n))))
+
+pub not_two : (line one two rest behind_one : List ℕ) → parts_of line ≡ one ∷ parts_of behind_one → parts_of behind_one ≡ two ∷ parts_of rest → has_fields 1 (behind (parts_of line)) ≡ false
+not_two line one two rest behind_one e f = rw (e, f) (another_count 1 (two ∷ parts_of rest) (λ n. absurd (omega (arith, some_parts rest, n))))
 
 pub not_three : (line one two three rest behind_one behind_two : List ℕ) → parts_of line ≡ one ∷ parts_of behind_one → parts_of behind_one ≡ two ∷ parts_of behind_two → parts_of behind_two ≡ three ∷ parts_of rest
-    → (length (behind (parts_of line)) == 2) ≡ false
-not_three line one two three rest behind_one behind_two e f g =
-    rw (e, f, g) (ne_eqb (length (two ∷ three ∷ parts_of rest)) 2 (λ n. absurd (omega (arith, some_parts rest, n))))
+    → has_fields 2 (behind (parts_of line)) ≡ false
+not_three line one two three rest behind_one behind_two e f g = rw (e, f, g) (another_count 2 (two ∷ three ∷ parts_of rest) (λ n. absurd (omega (arith, some_parts rest, n))))
+
+-- ---- empty parts
+
+empty_is : (bytes : List ℕ) → true ≡ (length bytes == 0) → bytes ≡ []
+empty_is [] e = refl
+empty_is (b ∷ bs) e = absurd (let n = eqb-true (length (b ∷ bs)) 0 (sym e) in omega (arith, n))
+
+pub one_empty : (line one rest : List ℕ) → parts_of line ≡ one ∷ parts_of rest → true ≡ (length rest == 0) → has_fields 1 (behind (parts_of line)) ≡ false
+one_empty line one rest e f = rw (e, empty_is rest f) refl
+
+pub one_filled : (line one rest : List ℕ) → parts_of line ≡ one ∷ parts_of rest → false ≡ (length rest == 0) → parts_of rest ≡ rest ∷ [] → has_fields 1 (behind (parts_of line)) ≡ true
+one_filled line one rest e f g = rw (e, g, sym f) refl
+
+two_parts : (line one rest two behind_two : List ℕ) → parts_of line ≡ one ∷ parts_of rest → parts_of rest ≡ two ∷ parts_of behind_two → behind (parts_of line) ≡ two ∷ parts_of behind_two
+two_parts line one rest two behind_two e f = rw (e, f) refl
+
+either_empty : (two : List ℕ) (more : List (List ℕ)) (n : ℕ) → two ≡ [] → has_fields n (two ∷ more) ≡ false
+either_empty two more n e = rw e (both_false (length ([] ∷ more) == n))
+  where
+    both_false : (t : Bool) → (t && false) ≡ false
+    both_false true = refl
+    both_false false = refl
+
+pub two_empty : (line one rest two behind_two : List ℕ) → parts_of line ≡ one ∷ parts_of rest → parts_of rest ≡ two ∷ parts_of behind_two → true ≡ ((length two == 0) || (length behind_two == 0)) → has_fields 2 (behind (parts_of line)) ≡ false
+two_empty line one rest two behind_two e f h = rw (two_parts line one rest two behind_two e f) (go (length two == 0) refl h)
+  where
+    go : (t : Bool) → (length two == 0) ≡ t → true ≡ (t || (length behind_two == 0)) → has_fields 2 (two ∷ parts_of behind_two) ≡ false
+    go true g h = either_empty two (parts_of behind_two) 2 (empty_is two (sym g))
+    go false g h = rw (empty_is behind_two h) (last (is_filled two))
+      where
+        last : (t : Bool) → (t && false) ≡ false
+        last true = refl
+        last false = refl
+
+pub two_filled : (line one rest two behind_two : List ℕ) → parts_of line ≡ one ∷ parts_of rest → parts_of rest ≡ two ∷ parts_of behind_two → false ≡ ((length two == 0) || (length behind_two == 0)) → parts_of behind_two ≡ behind_two ∷ []
+    → has_fields 2 (behind (parts_of line)) ≡ true
+two_filled line one rest two behind_two e f h g = rw (two_parts line one rest two behind_two e f, g) (go (length two == 0) (length behind_two == 0) h)
+  where
+    go : (t u : Bool) → false ≡ (t || u) → (not t && (not u && true)) ≡ true
+    go true u e = absurd cc
+    go false true e = absurd cc
+    go false false e = refl

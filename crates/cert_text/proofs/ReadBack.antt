@@ -1,27 +1,21 @@
 -- The text of a certificate is read as that certificate.
-use Rattle.std.proofs.Common.{◌≡◌, ℕ, zero, suc, ◌+◌, ◌<◌, ◌≤◌, Bool, true, false, List, [], ◌∷◌, ◌++◌, length, map, drop, Some, Ok, refl, sym, ap, ◌∙◌, subst, arith, codes}
+use Rattle.std.proofs.Common.{◌≡◌, ℕ, suc, ◌+◌, ◌≤◌, Bool, true, false, List, [], ◌∷◌, ◌++◌, length, map, drop, Some, Ok, refl, sym, ap, ◌∙◌, subst, arith, codes}
 use Rattle.std.specs.Prelude.{◌||◌, ◌==◌, if◌then◌else◌}
 use Rattle.std.specs.List.{flat_map, AllByRecursion}
-use Rattle.std.proofs.lemmas.List.Concat.{flat_map-append}
-use Rattle.std.proofs.lemmas.Int.{ints}
 use Rattle.std.proofs.Math.Nat.{le_refl}
 use Rattle.std.proofs.Math.Seq.{drop-cons}
-use Rattle.rational.specs.Rational.{ℚ, zero_ℚ, Fits}
-use Rattle.rational.specs.Order.{◌<ℚ◌}
-use Rattle.frac_core.specs.Parts.{max_part}
+use Rattle.rational.specs.Rational.{ℚ}
 use Rattle.frac_core.specs.Text.{text_of}
 use Rattle.program_law.specs.Program.{Program, IsProgram}
-use Rattle.program_law.specs.Tests.{is_zero, is_positive}
-use Rattle.program_law.specs.Changes.{zeros}
+use Rattle.program_law.specs.Tests.{is_zero}
 use Rattle.program_law.proofs.Numbers.{above_positive}
 use Rattle.program_law.specs.declared.Square.{Square}
-use Rattle.program_model.specs.Named.{names_of}
 use Rattle.certificate_law.specs.declared.Node.{Node}
 use Rattle.certificate_law.specs.declared.Node.TheVariants as nodes
 use Rattle.certificate_law.specs.declared.Certificate.{Certificate}
 use Rattle.certificate_law.specs.declared.Certificate.TheVariants as certificates
 use Rattle.certificate_law.specs.Squares.{ArePositive}
-use Rattle.check_law.specs.Fits.{FitsNode, FitsSquares, FitsTree, IsColumnVector, HasNoBound}
+use Rattle.check_law.specs.Fits.{FitsNode, FitsTree, IsColumnVector}
 use Rattle.mps_tokens.specs.declared.words.CertificateWord.TheVariants as words
 use Rattle.cert_text.specs.declared.names.Axis.{Axis}
 use Rattle.cert_text.specs.declared.names.Axis.TheVariants.{Columns, Rows}
@@ -32,16 +26,15 @@ use Rattle.cert_text.specs.declared.items.Claim.TheVariants.{Optimal, Infeasible
 use Rattle.cert_text.specs.declared.places.Part.{Part}
 use Rattle.cert_text.specs.declared.places.Part.TheVariants as parts
 use Rattle.cert_text.specs.declared.places.Place.{Place}
-use Rattle.cert_text.specs.declared.draft.Draft.{Draft}
-use Rattle.cert_text.specs.Text.{Lines, names_on, count_on, name_at, entry_line, entry_lines, square_lines, node_lines, end_line, certificate_lines, line_text, lines_text, certificate_text}
-use Rattle.cert_text.specs.Places.{start, after, may_stand, least, is_optimal, is_unbounded, is_value, is_points, is_rays, is_squares, is_directions, is_ended, place_after}
+use Rattle.cert_text.specs.Text.{Lines, names_on, name_at, entry_lines, square_lines, node_lines, end_line, certificate_lines, line_text, lines_text, certificate_text}
+use Rattle.cert_text.specs.Places.{start, after, least, is_optimal, is_unbounded, is_value, is_points, is_rays, is_squares, is_directions, is_ended}
 use Rattle.cert_text.specs.Told.{blank, certificate_told}
-use Rattle.cert_text.specs.Reading.{Answer, claim_in, read_on, read_of}
-use Rattle.cert_text.specs.Writable.{IsWritable, NumbersFit, AllFit, SquareFits, NodeFits, branch_count}
+use Rattle.cert_text.specs.Reading.{Answer, claim_in, read_of}
+use Rattle.cert_text.specs.Writable.{IsWritable, NumbersFit, SquareFits, NodeFits, branch_count}
 use Rattle.cert_text.proofs.NameLemmas.{count_names}
 use Rattle.cert_text.proofs.ItemFields.{fields_of}
 use Rattle.cert_text.proofs.TextsRead.{IsClear, Runs, after_all, tell_all, item_text, line_pieces, run_read}
-use Rattle.cert_text.proofs.ItemRuns.{entries, square_items, node_items, after_append, runs_append, IsAt, entries_run, point_lists, ray_lists, in_rays, direction_lists, itself, IsGoodSquare, IsPast, squares_run, IsReady, IsDone, MayBound, nodes_run}
+use Rattle.cert_text.proofs.ItemRuns.{entries, square_items, node_items, after_append, runs_append, entries_run, point_lists, ray_lists, in_rays, direction_lists, itself, IsGoodSquare, squares_run, IsReady, MayBound, nodes_run}
 use Rattle.cert_text.proofs.ItemTells.{tell_append, tell_list, tell_squares, tell_nodes}
 use Rattle.cert_text.proofs.Readings.{claimed}
 

@@ -1,8 +1,8 @@
 -- One line more, and the end of a text.
-use Rattle.std.proofs.Common.{◌≡◌, ℕ, ◌+◌, Bool, true, false, List, [], ◌∷◌, length, Option, Some, None, Ok, Err, refl, sym, ap, ◌∙◌, subst, arith}
+use Rattle.std.proofs.Common.{◌≡◌, ℕ, ◌+◌, Bool, true, false, List, [], ◌∷◌, length, Some, None, Ok, Err, refl, sym, ap, ◌∙◌, arith}
 use Rattle.std.proofs.lemmas.Bool.{ne_eqb}
 use Rattle.std.specs.Prelude.{◌==◌, ◌&&◌, if◌then◌else◌}
-use Rattle.std.specs.List.{slice_split, onto_first}
+use Rattle.std.specs.List.{onto_first}
 use Rattle.program_law.specs.Program.{Program}
 use Rattle.certificate_law.specs.declared.Certificate.{Certificate}
 use Rattle.cert_text.specs.declared.items.Item.{Item}

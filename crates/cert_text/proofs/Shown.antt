@@ -1,10 +1,7 @@
 -- The items of a text that is read are those of its certificate.
-use Rattle.std.proofs.Common.{◌≡◌, ℕ, zero, suc, ◌+◌, ◌-◌, ◌<◌, ◌≤◌, Bool, true, false, List, [], ◌∷◌, ◌++◌, length, set, refl, sym, ap, ◌∙◌, subst, arith, append_assoc, append-nil, pos}
-use Rattle.std.specs.Prelude.{◌&&◌, ◌||◌, ◌==◌, not, nat_lt, if◌then◌else◌}
+use Rattle.std.proofs.Common.{◌≡◌, ℕ, zero, suc, ◌+◌, ◌<◌, ◌≤◌, true, false, List, [], ◌∷◌, ◌++◌, length, set, refl, sym, ap, ◌∙◌, arith, append_assoc, append-nil, pos}
 use Rattle.std.specs.List.{flat_map, AllByRecursion}
 use Rattle.std.specs.Ordering.{int_eq}
-use Rattle.std.proofs.lemmas.Bool.{eqb-true}
-use Rattle.std.proofs.lemmas.Bool.Decides.{nat_tests}
 use Rattle.std.proofs.lemmas.List.Concat.{flat_map-append}
 use Rattle.rational.specs.Rational.{ℚ, zero_ℚ}
 use Rattle.rational.proofs.Wholes.{num-whole}
@@ -14,15 +11,9 @@ use Rattle.program_law.specs.Changes.{zeros}
 use Rattle.program_law.specs.declared.Square.{Square}
 use Rattle.certificate_law.specs.declared.Node.{Node}
 use Rattle.certificate_law.specs.declared.Node.TheVariants as nodes
-use Rattle.check_law.specs.Fits.{FitsNode, IsColumnVector}
+use Rattle.check_law.specs.Fits.{FitsNode}
 use Rattle.cert_text.specs.declared.items.Item.{Item}
 use Rattle.cert_text.specs.declared.items.Item.TheVariants as items
-use Rattle.cert_text.specs.declared.items.Claim.{Claim}
-use Rattle.cert_text.specs.declared.items.Claim.TheVariants.{Optimal, Infeasible, Unbounded, NotConvex}
-use Rattle.cert_text.specs.declared.places.Part.{Part}
-use Rattle.cert_text.specs.declared.places.Part.TheVariants as parts
-use Rattle.cert_text.specs.declared.places.Place.{Place}
-use Rattle.cert_text.specs.declared.draft.Draft.{Draft}
 use Rattle.cert_text.specs.Told.{with_coef, with_w, with_y, on_last}
 use Rattle.cert_text.proofs.ItemRuns.{entry_items, entries, square_items, node_items}
 

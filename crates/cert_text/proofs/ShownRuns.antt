@@ -1,17 +1,14 @@
 -- The items that are accepted one after another are those of the certificate that they tell.
-use Rattle.std.proofs.Common.{◌≡◌, ℕ, zero, suc, ◌+◌, ◌<◌, ◌≤◌, Bool, true, false, List, [], ◌∷◌, ◌++◌, length, set, Ok, refl, sym, ap, ◌∙◌, subst, arith, append_assoc, append-nil}
+use Rattle.std.proofs.Common.{◌≡◌, ℕ, suc, ◌+◌, ◌<◌, ◌≤◌, Bool, true, false, List, [], ◌∷◌, ◌++◌, length, set, refl, sym, ap, ◌∙◌, subst, arith, append_assoc, append-nil}
 use Rattle.std.specs.Prelude.{◌&&◌, ◌||◌, ◌==◌, not, nat_lt, if◌then◌else◌}
-use Rattle.std.specs.List.{flat_map, join_with_byte, AllByRecursion}
+use Rattle.std.specs.List.{flat_map}
 use Rattle.std.proofs.lemmas.Bool.{eqb-true}
-use Rattle.std.proofs.lemmas.Bool.Decides.{nat_tests}
 use Rattle.rational.specs.Rational.{ℚ}
 use Rattle.program_law.specs.Program.{Program}
-use Rattle.program_law.specs.Tests.{is_zero}
 use Rattle.program_law.specs.Changes.{zeros}
 use Rattle.program_law.specs.declared.Square.{Square}
 use Rattle.certificate_law.specs.declared.Node.{Node}
 use Rattle.certificate_law.specs.declared.Node.TheVariants as nodes
-use Rattle.certificate_law.specs.declared.Certificate.{Certificate}
 use Rattle.cert_text.specs.declared.items.Item.{Item}
 use Rattle.cert_text.specs.declared.items.Item.TheVariants as items
 use Rattle.cert_text.specs.declared.items.Claim.{Claim}
@@ -22,9 +19,9 @@ use Rattle.cert_text.specs.declared.places.Place.{Place}
 use Rattle.cert_text.specs.declared.draft.Draft.{Draft}
 use Rattle.cert_text.specs.Places.{start, after, is_value, is_points, is_rays, is_directions, is_squares, is_leaf_point, is_multipliers, is_ended, is_optimal, is_unbounded, wants_node}
 use Rattle.cert_text.specs.Told.{blank, with_item, with_coef, with_w, with_y, on_last, certificate_told}
-use Rattle.cert_text.proofs.ItemFields.{IsEntry, Accepted}
+use Rattle.cert_text.proofs.ItemFields.{Accepted}
 use Rattle.cert_text.proofs.TextsRead.{Runs, after_all, tell_all}
-use Rattle.cert_text.proofs.ItemRuns.{entries, square_items, node_items, in_rays, in_leaf}
+use Rattle.cert_text.proofs.ItemRuns.{entries, square_items, node_items, in_leaf}
 use Rattle.cert_text.proofs.ReadBack.{items_of}
 use Rattle.cert_text.proofs.Accepts.{IsGood, good_more, good_start}
 use Rattle.cert_text.proofs.Shown.{AllZero, ZeroFrom, zeros_zero, none_entries, put_first, put_zero, LastCoef, coef_pushed, square_pushed, coef_zero, coef_put, LastW, LastY, w_put, y_put, w_next, y_next, w_to_y, bound_begun, farkas_begun, bound_pushed, farkas_pushed, node_pushed}

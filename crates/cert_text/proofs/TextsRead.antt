@@ -1,5 +1,5 @@
 -- The text of items that are accepted one after another is read as what they tell.
-use Rattle.std.proofs.Common.{◌≡◌, ◌≢◌, ℕ, zero, suc, ◌+◌, ◌^◌, ◌<◌, ◌≤◌, Bool, true, false, cond, List, [], ◌∷◌, ◌++◌, length, get_or, None, Ok, refl, sym, ap, ◌∙◌, subst, arith, lit<, codes, ℤ, append_assoc}
+use Rattle.std.proofs.Common.{◌≡◌, ◌≢◌, ℕ, zero, suc, ◌+◌, ◌^◌, ◌<◌, ◌≤◌, Bool, true, false, cond, List, [], ◌∷◌, ◌++◌, length, Ok, refl, sym, ap, ◌∙◌, subst, arith, lit<, codes, ℤ, append_assoc}
 use Rattle.std.specs.Prelude.{◌&&◌, ◌==◌, not, unsigned_abs, All, AllPairs}
 use Rattle.std.specs.List.{list_all, slice_split, onto_first, flat_map, join_with_byte, AllByRecursion}
 use Rattle.std.specs.Char.{is_ascii_digit}
@@ -9,7 +9,6 @@ use Rattle.std.proofs.lemmas.Bool.Decides.{nat_tests}
 use Rattle.std.proofs.lemmas.List.Folds.{list_all-append}
 use Rattle.std.proofs.lemmas.List.Splits.{slice_split-cons_no}
 use Rattle.std.proofs.lemmas.Fmt.{decimal_digit}
-use Rattle.std.proofs.Math.Nat.{lt_of_le_of_lt}
 use Rattle.rational.specs.Rational.{ℚ, Fits}
 use Rattle.frac_core.specs.Parts.{max_part}
 use Rattle.frac_core.specs.Text.{text_of}
@@ -24,14 +23,14 @@ use Rattle.cert_text.specs.declared.draft.Draft.{Draft}
 use Rattle.cert_text.specs.Parts.{is_byte, pieces_of, parts_of}
 use Rattle.cert_text.specs.Text.{names_on, count_on, name_at, line_text}
 use Rattle.cert_text.specs.Places.{after, place_after, is_ended}
-use Rattle.cert_text.specs.Faults.{line_fault}
+use Rattle.cert_text.specs.Faults.{is_filled, line_fault}
 use Rattle.cert_text.specs.Told.{item_of, with_item, told_by, certificate_told}
 use Rattle.cert_text.specs.Reading.{fault_or, read_on}
 use Rattle.cert_text.proofs.NameLemmas.{count_names}
 use Rattle.cert_text.proofs.NumberTexts.{decimal_plain}
 use Rattle.cert_text.proofs.NumbersRead.{spelled, is_below, signed_text, small}
-use Rattle.cert_text.proofs.ItemFields.{fields_of, IsEntry, Accepted, HasNames}
-use Rattle.cert_text.proofs.LinesRead.{IsRead, fields_read}
+use Rattle.cert_text.proofs.ItemFields.{fields_of, Accepted, HasNames}
+use Rattle.cert_text.proofs.LinesRead.{fields_read}
 use Rattle.cert_text.proofs.Readings.{step}
 
 -- ---- fields without blanks and line feeds
@@ -92,13 +91,19 @@ name_bytes : (bs : List ℕ) → All (λ b. (33 ≤ b) × (b ≤ 126)) bs → li
 name_bytes [] h = refl
 name_bytes (b ∷ bs) h = rw (printable_clear b (h 0 0 (omega arith))) (name_bytes bs (λ k d lt. h (suc k) d (omega (arith, lt))))
 
-pub has_names : (p : Program) → IsProgram p → HasNames p
-has_names p h Columns = h.columns_differ
-has_names p h Rows = λ i j d lt len. h.rows_differ (suc i) (suc j) d (omega (arith, lt)) (omega (arith, len))
-
 named_at : (p : Program) → IsProgram p → (axis : Axis) (j : ℕ) → j < count_on p axis → IsName (name_at (names_on p axis) j)
 named_at p h Columns j lt = h.named_columns j [] (omega (arith, lt, count_names p.columns))
 named_at p h Rows j lt = h.named_rows (suc j) [] (omega (arith, lt, count_names p.rows))
+
+name_filled : (bs : List ℕ) → IsName bs → is_filled bs ≡ true
+name_filled bs h = let some = h.some in ap not (ne_eqb (length bs) 0 (λ e. absurd (omega (arith, some, e))))
+
+distinct_names : (p : Program) → IsProgram p → (axis : Axis) → AllPairs (λ a b. a ≢ b) (names_on p axis)
+distinct_names p h Columns = h.columns_differ
+distinct_names p h Rows = λ i j d lt len. h.rows_differ (suc i) (suc j) d (omega (arith, lt)) (omega (arith, len))
+
+pub has_names : (p : Program) → IsProgram p → HasNames p
+has_names p h = record { distinct = distinct_names p h; filled = λ axis j lt. name_filled (name_at (names_on p axis) j) (named_at p h axis j lt) }
 
 pub name_clear : (p : Program) → IsProgram p → (axis : Axis) (j : ℕ) → j < count_on p axis → IsClear (name_at (names_on p axis) j)
 name_clear p h axis j lt = record { bytes = name_bytes (name_at (names_on p axis) j) (named_at p h axis j lt).printable }

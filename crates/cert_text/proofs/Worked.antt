@@ -1,15 +1,14 @@
 -- Texts that are read and written again, and texts with a fault.
-use Rattle.std.proofs.Common.{◌≡◌, ℕ, List, [], ◌∷◌, ◌++◌, Some, None, Result, Ok, Err, refl, codes}
-use Rattle.std.specs.Prelude.{pos, negsuc, true, false}
-use Rattle.rational.specs.Rational.{ℚ, whole, zero_ℚ, ratio, fraction}
+use Rattle.std.proofs.Common.{◌≡◌, ℕ, List, [], ◌∷◌, ◌++◌, None, Result, Ok, Err, refl, codes}
+use Rattle.std.specs.Prelude.{pos, negsuc, false}
+use Rattle.rational.specs.Rational.{ℚ, whole, zero_ℚ, ratio}
 use Rattle.rational.specs.Divisors.{gcd_of}
 use Rattle.program_law.specs.declared.Row.{Row}
 use Rattle.program_law.specs.declared.Column.{Column}
-use Rattle.program_law.specs.declared.Square.{Square}
 use Rattle.program_law.specs.Program.{Program}
 use Rattle.certificate_law.specs.declared.Node.TheVariants as nodes
 use Rattle.certificate_law.specs.declared.Certificate.{Certificate}
-use Rattle.certificate_law.specs.declared.Certificate.TheVariants.{Optimal, Infeasible, Unbounded, NotConvex}
+use Rattle.certificate_law.specs.declared.Certificate.TheVariants.{Optimal}
 use Rattle.cert_text.specs.declared.kinds.CertKind.{CertKind}
 use Rattle.cert_text.specs.declared.kinds.CertKind.TheVariants as kinds
 use Rattle.std.specs.Fmt.{digits}
@@ -109,6 +108,8 @@ kinds_of_faults : (again third 1 [] ≡ Err (1, kinds.CertEnd))
     × (again third 1 (codes "NOTCONVEX\nEND\n\n") ≡ Err (3, kinds.CertAfter))
     × (again third 1 (codes "NOTCONVEX\nPOINT x 1\n") ≡ Err (2, kinds.CertLine))
     × (again third 1 (codes "NOTCONVEX\nVECTOR x  1\n") ≡ Err (2, kinds.CertLine))
+    × (again third 1 (codes "NOTCONVEX\nVECTOR  1\n") ≡ Err (2, kinds.CertLine))
+    × (again third 1 (codes "OPTIMAL\nVALUE \n") ≡ Err (2, kinds.CertLine))
     × (again third 1 (codes "NOTCONVEX\nVECTOR z 1\n") ≡ Err (2, kinds.CertName))
     × (again third 1 (codes "NOTCONVEX\nVECTOR x 170141183460469231731687303715884105728/2\n") ≡ Err (2, kinds.CertPast))
     × (again third 1 (codes "NOTCONVEX\nVECTOR x 170141183460469231731687303715884105728/1\n") ≡ Err (2, kinds.CertNumber))
@@ -117,4 +118,4 @@ kinds_of_faults : (again third 1 [] ≡ Err (1, kinds.CertEnd))
     × (again third 1 (codes "INFEASIBLE\nBRANCH x 1/2\n") ≡ Err (2, kinds.CertNumber))
     × (again third 1 (codes "INFEASIBLE\nBRANCH x -1\nCROSS x\nEND\n") ≡ Err (4, kinds.CertLine))
 unfolding whole ratio gcd_of digits certificate_text line_fault item_of claim_in number_of lowest_number
-kinds_of_faults = (refl, refl, refl, refl, refl, refl, refl, refl, refl, refl, refl, refl)
+kinds_of_faults = (refl, refl, refl, refl, refl, refl, refl, refl, refl, refl, refl, refl, refl, refl)

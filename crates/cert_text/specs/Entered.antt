@@ -1,5 +1,5 @@
 -- What reading the fields of a line answers.
-use Rattle.std.specs.Prelude.{◌≡◌, ℕ, List, Option, Some, None, Result, Ok, Err}
+use Rattle.std.specs.Prelude.{◌≡◌, ℕ, List, Some, None, Result, Ok, Err}
 use Rattle.rational.specs.Rational.{ℚ}
 use Rattle.program_law.specs.Program.{Program}
 use Rattle.program_law.specs.Places.{place_of}
@@ -9,7 +9,7 @@ use Rattle.cert_text.specs.declared.places.Place.{Place}
 use Rattle.cert_text.specs.declared.fields.Allowed.{Allowed}
 use Rattle.cert_text.specs.declared.items.Item.{Item}
 use Rattle.cert_text.specs.Numbers.{number_of}
-use Rattle.cert_text.specs.Faults.{Tests, first_of, field, bare_tests, number_tests, name_tests, entry_tests, tests, line_fault}
+use Rattle.cert_text.specs.Faults.{first_of, field, bare_tests, number_tests, name_tests, entry_tests, tests, line_fault}
 use Rattle.cert_text.specs.Told.{item_of, item_with}
 
 abbrev pub ReadsBare : Place → CertificateWord → List (List ℕ) → Result (Unit {0}) CertKind → Type 0

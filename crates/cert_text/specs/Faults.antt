@@ -1,5 +1,6 @@
 -- What is wrong with a line: the first of its tests, in the order of the kinds, that holds.
 use Rattle.std.specs.Prelude.{ℕ, ◌==◌, ◌&&◌, not, nat_lt, Bool, true, false, List, [], ◌∷◌, length, Option, Some, None, Result, Ok, Err, is_none, slice_index_or, if◌then◌else◌}
+use Rattle.std.specs.List.{list_all}
 use Rattle.rational.specs.Rational.{ℚ}
 use Rattle.program_law.specs.Program.{Program}
 use Rattle.program_law.specs.Places.{place_of}
@@ -31,6 +32,13 @@ first_of (t ∷ ts) = if t.0 then Some t.1 else first_of ts
 abbrev pub field : List (List ℕ) → ℕ → List ℕ
 field fields k = slice_index_or fields k []
 
+abbrev pub is_filled : List ℕ → Bool
+is_filled bytes = not (length bytes == 0)
+
+-- so many fields behind the word, each behind one blank, and no blank at the end
+abbrev pub has_fields : ℕ → List (List ℕ) → Bool
+has_fields n fields = (length fields == n) && list_all is_filled fields
+
 -- ---- the numbers that a line may have
 
 abbrev pub allows : Allowed → ℚ → Bool
@@ -59,12 +67,12 @@ is_early least (Some j) = nat_lt j least
 
 -- `word`
 abbrev pub bare_tests : Place → CertificateWord → List (List ℕ) → Tests
-bare_tests s word fields = (not (may_stand s word && (length fields == 0)), kinds.CertLine) ∷ []
+bare_tests s word fields = (not (may_stand s word && has_fields 0 fields), kinds.CertLine) ∷ []
 
 -- `word number`
 abbrev pub number_tests : Place → CertificateWord → Allowed → List (List ℕ) → Tests
 number_tests s word allowed fields =
-    (not (may_stand s word && (length fields == 1)), kinds.CertLine)
+    (not (may_stand s word && has_fields 1 fields), kinds.CertLine)
     ∷ (is_past (number_of (field fields 0)), kinds.CertPast)
     ∷ (not (is_allowed allowed (number_of (field fields 0))), kinds.CertNumber)
     ∷ (is_one_too_many s word, kinds.CertMany)
@@ -73,14 +81,14 @@ number_tests s word allowed fields =
 -- `word name`
 abbrev pub name_tests : Place → CertificateWord → List (List ℕ) → List (List ℕ) → Tests
 name_tests s word names fields =
-    (not (may_stand s word && (length fields == 1)), kinds.CertLine)
+    (not (may_stand s word && has_fields 1 fields), kinds.CertLine)
     ∷ (is_none (place_of names (field fields 0)), kinds.CertName)
     ∷ []
 
 -- `word name number`
 abbrev pub entry_tests : Place → CertificateWord → List (List ℕ) → Allowed → List (List ℕ) → Tests
 entry_tests s word names allowed fields =
-    (not (may_stand s word && (length fields == 2)), kinds.CertLine)
+    (not (may_stand s word && has_fields 2 fields), kinds.CertLine)
     ∷ (is_none (place_of names (field fields 0)), kinds.CertName)
     ∷ (is_past (number_of (field fields 1)), kinds.CertPast)
     ∷ (not (is_allowed allowed (number_of (field fields 1))), kinds.CertNumber)

@@ -1,5 +1,5 @@
 -- What a reader holds of the lines that it has read.
-use Rattle.std.specs.Prelude.{◌≡◌, ℕ, ◌≤◌, ◌+◌, true, List, length, Option, Some}
+use Rattle.std.specs.Prelude.{◌≡◌, true, List, length, Some}
 use Rattle.program_law.specs.Program.{Program}
 use Rattle.certificate_law.specs.declared.Node.{Node}
 use Rattle.certificate_law.specs.Wanted.{wanted_after}

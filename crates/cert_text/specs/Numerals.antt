@@ -1,5 +1,5 @@
 -- What reading a numeral answers.
-use Rattle.std.specs.Prelude.{◌≡◌, ℕ, ◌*◌, ◌<◌, ◌≤◌, true, false, List, Option, MatchOption, Some, None, Result, Ok, Err}
+use Rattle.std.specs.Prelude.{◌≡◌, ℕ, ◌<◌, ◌≤◌, true, false, List, Option, MatchOption, Result, Ok, Err}
 use Rattle.std.specs.Str.Parse.{digits_value}
 use Rattle.frac_core.specs.Parts.{max_part}
 use Rattle.mps_tokens.specs.declared.fault.NumberFault.{NumberFault}

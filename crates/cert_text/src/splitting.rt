@@ -3,7 +3,7 @@
 ghost use Rattle.std.specs.Prelude.{◌≡◌, ◌==◌, ◌∷◌, ◌+◌, [], true, false, IfSome, IfNone, length};
 ghost use Rattle.std.specs.List.{slice_split, position, before_first, after_first, list_any};
 ghost use Rattle.cert_text.specs.Parts.{is_byte, pieces_of, parts_of};
-ghost use Rattle.cert_text.specs.Faults.{behind};
+ghost use Rattle.cert_text.specs.Faults.{behind, has_fields};
 
 /// Where a byte stands first.
 fn place_of_byte(bytes: &[u8], byte: u8) -> Option<usize>
@@ -70,7 +70,7 @@ pub(crate) fn first_part(line: &[u8]) -> &[u8]
 /// Whether a line has one part.
 #[tactic(auto, using(crate::proofs::Pieces::not_one))]
 pub(crate) fn is_one_part(line: &[u8]) -> bool
-    ensures { result ≡ (length (behind (parts_of line.now)) == 0) }
+    ensures { result ≡ has_fields 0 (behind (parts_of line.now)) }
 {
     match split_blank(line) {
         Some(_) => false,
@@ -78,27 +78,35 @@ pub(crate) fn is_one_part(line: &[u8]) -> bool
     }
 }
 
-/// The second part of a line that has two.
-#[tactic(auto, using(crate::proofs::Pieces::not_two))]
+/// What stands behind the only blank of a line, unless that is nothing.
+#[tactic(auto, using(crate::proofs::Pieces::not_two, crate::proofs::Pieces::one_empty, crate::proofs::Pieces::one_filled))]
 pub(crate) fn second_part(line: &[u8]) -> Option<&[u8]>
     ensures some { IfSome result (λ f. behind (parts_of line.now) ≡ f.now ∷ []) }
-    ensures none { IfNone result ((length (behind (parts_of line.now)) == 1) ≡ false) }
+    ensures filled { IfSome result (λ f. has_fields 1 (behind (parts_of line.now)) ≡ true) }
+    ensures none { IfNone result (has_fields 1 (behind (parts_of line.now)) ≡ false) }
 {
     let (_, rest) = split_blank(line)?;
+    if rest.is_empty() {
+        return None;
+    }
     match split_blank(rest) {
         Some(_) => None,
         None => Some(rest),
     }
 }
 
-/// The second and third part of a line that has three.
-#[tactic(auto, using(crate::proofs::Pieces::not_three))]
+/// What stands between the two blanks of a line and behind them, unless one of the two is nothing.
+#[tactic(auto, using(crate::proofs::Pieces::not_three, crate::proofs::Pieces::two_empty, crate::proofs::Pieces::two_filled))]
 pub(crate) fn last_two_parts(line: &[u8]) -> Option<(&[u8], &[u8])>
     ensures some { IfSome result (λ p. behind (parts_of line.now) ≡ p.0.now ∷ p.1.now ∷ []) }
-    ensures none { IfNone result ((length (behind (parts_of line.now)) == 2) ≡ false) }
+    ensures filled { IfSome result (λ p. has_fields 2 (behind (parts_of line.now)) ≡ true) }
+    ensures none { IfNone result (has_fields 2 (behind (parts_of line.now)) ≡ false) }
 {
     let (_, rest) = split_blank(line)?;
     let (second, third) = split_blank(rest)?;
+    if second.is_empty() || third.is_empty() {
+        return None;
+    }
     match split_blank(third) {
         Some(_) => None,
         None => Some((second, third)),

@@ -80,6 +80,8 @@ fn line_faults(rt: HostRuntime) -> Result<(), Fail> {
     let p = program(rt.alloc())?;
     for text in [
         "INFEASIBLE\nFARKAS\nY c2  1\n",
+        "INFEASIBLE\nFARKAS\nY  1\n",
+        "INFEASIBLE\nFARKAS\nY c2 \n",
         "INFEASIBLE\nCROSS x\nCROSS x\n",
         "OPTIMAL\nVALUE 1\nEND\n",
         "INFEASIBLE\nFARKAS\nBOUND\n",

@@ -1,5 +1,5 @@
-use Rattle.std.proofs.Common.{refl, sym, arith, ◌∙◌}
-use Rattle.cert_text.proofs.Histories.{begun, held_more, has_room, is_tree}
+use Rattle.std.proofs.Common.{refl, sym, arith}
+use Rattle.cert_text.proofs.Histories.{held_more, is_tree}
 use Rattle.cert_text.proofs.Readings.{goes_on, faulty, goes_past}
 use Rattle.cert_text.proofs.reading.read_claimed.Goals as goal
 
