@@ -1,5 +1,7 @@
 // Runs over sources and sinks in memory.
 
+ghost use Rattle.std.specs.Prelude.{◌≤◌};
+
 use crate::{Status, run};
 use qp_io::{MemorySink, MemorySource, Sink, Source, SteadySink, SteadySource};
 use std::alloc::Global;
