@@ -1,0 +1,32 @@
+//! The sites of a region's calculation.
+
+ghost use Rattle.std.specs.Prelude.{◌≡◌, ◌≤◌, ◌+◌, ◌^◌, ℕ, All, List, Ok, Err, length};
+ghost use Rattle.rational.specs.Rational.{ℚ};
+ghost use Rattle.rational.specs.Vectors.{IsSemidefinite};
+ghost use Rattle.frac_core.specs.Parts.{max_part};
+ghost use Rattle.frac_core.specs.declared.fractions.Refused.{Refused};
+ghost use Rattle.frac_core.specs.Operations.{IsFirstPast, IsWithin};
+ghost use Rattle.program_law.specs.Region.{Region};
+ghost use Rattle.program_law.specs.Program.{Program, IsProgram};
+ghost use Rattle.check_law.specs.declared.Event.{Event};
+ghost use Rattle.check_law.specs.declared.Event.TheVariants.{Past};
+ghost use Rattle.check_law.specs.Value.{value_of};
+ghost use Rattle.form_law.specs.Form.{width, form_of};
+ghost use Rattle.walk_law.specs.Operations.{value_ops};
+ghost use Rattle.walk_law.specs.Sites.{IsReached, IsSpentAt, Site};
+
+/// A budget can be used up at a reached site only where it is at least two less than 2^(2n + m + 1), for the n columns and m
+/// equations of the region's form.
+pub fn large_budgets_are_enough()
+    ensures { (p : Program) (region : Region) (budget : ℕ) (site : Site) → IsProgram p → length region ≡ length p.columns →
+        IsSemidefinite (length p.columns) p.pairs → IsReached p region site → IsSpentAt p region budget site →
+        budget + 2 ≤ 2 ^ (width p region + width p region + length (form_of p region).matrix + 1) }
+{}
+
+/// The calculation of a point's value ends with the first of its operations that is past, where there is one; nothing else
+/// ends it.
+pub fn value_ends_with_its_first_refusal()
+    ensures value { (p : Program) (x : List ℚ) (v : ℚ) → value_of p x ≡ Ok v → All (IsWithin max_part) (value_ops p x) }
+    ensures refusal { (p : Program) (x : List ℚ) (e : Event) → value_of p x ≡ Err e →
+        (r : Refused) × (e ≡ Past r) × IsFirstPast max_part (value_ops p x) r }
+{}
