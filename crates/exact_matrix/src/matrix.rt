@@ -93,8 +93,8 @@ impl<F: Copy + Drop> Matrix<F> {
 }
 
 impl<F: ExactField> Matrix<F> {
-    // The matrix of `rows` rows of `columns` entries that stand one after another.
-    pub(crate) fn of_rows(entries: Vec<F>, rows: usize, columns: usize) -> Matrix<F>
+    /// The matrix of `rows` rows of `columns` entries that stand one after another.
+    pub fn of_rows(entries: Vec<F>, rows: usize, columns: usize) -> Matrix<F>
         requires { length entries.items ≡ rows * columns }
         ensures { result ≡ record { columns = columns; rows = rows_of columns rows entries.items } }
     {
