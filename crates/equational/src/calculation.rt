@@ -1,0 +1,30 @@
+// The calculation of the form.
+
+ghost use Rattle.std.specs.Prelude.{◌≡◌, length, IfOk};
+ghost use Rattle.program_law.specs.Region.{IsCrossedRegion};
+ghost use Rattle.frac_core.specs.Parts.{max_part};
+ghost use Rattle.form_law.specs.Calculation.{form_in, form_ops};
+ghost use Rattle.equational.specs.Formed.{formed, IsAnswerOf, IsFormAnswer};
+
+use crate::kept::Form;
+use exact_matrix::Stop;
+use program_model::{Program, Region};
+use std::alloc::Global;
+
+/// The equational form of a program in a region that isn't crossed.
+///
+/// A column with a low bound l is `l + z`, one with a high bound u alone `u - z`, one without bounds `z - z'`. Rows with one side get a
+/// slack, rows with two different ones two, and so does a column with both bounds. An equation with a right side below 0 is negated.
+///
+/// # Errors
+///
+/// `Past` with the first operation of the form's calculation whose exact result doesn't fit, and `Memory`.
+pub fn form(alloc: Global, p: &Program, region: &Region) -> Result<Form, Stop>
+    requires region { length region.now ≡ length p.now.columns }
+    requires not_crossed { IsCrossedRegion region.now → ⊥ }
+    ensures calculation { IsFormAnswer (form_in max_part p.now region.now) result }
+    ensures operations { IsAnswerOf (form_ops p.now region.now) result }
+    ensures exact { IfOk result (λ f. f ≡ formed p.now region.now) }
+{
+    Err(Stop::Memory)
+}

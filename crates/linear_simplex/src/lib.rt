@@ -1,0 +1,8 @@
+//! Whether a linear problem `M z = r`, `z >= 0` has a solution, by the lexicographic simplex method.
+#![tactic(auto)]
+
+mod answers;
+mod chain;
+
+pub use answers::{Feasible, LinearStop};
+pub use chain::feasible;
