@@ -3,13 +3,15 @@
 ghost use Rattle.std.specs.Prelude.{◌≡◌, ◌<◌, ◌^◌, length, IfOk, IfErr, OnOk, OnErr};
 ghost use Rattle.rational.specs.Rational.{zero_ℚ};
 ghost use Rattle.rational.specs.Sums.{entry};
-ghost use Rattle.basis_law.specs.Basis.{unit_basis, IsBasis};
+ghost use Rattle.basis_law.specs.Basis.{unit_basis, IsBasis, Tableau};
 ghost use Rattle.basis_law.specs.Exchange.{coordinates, exchanged};
 ghost use Rattle.basis_law.specs.Operations.{basis_ops};
 ghost use Rattle.basis_law.specs.Problem.{height, width, IsProblem};
 ghost use Rattle.linear_basis.specs.Kept.{kept, problem, tableau, IsStopOf};
 
-use exact_matrix::{Matrix, Stop};
+use crate::columns::{columns_matrix, unit_columns};
+use crate::products::{multipliers, products};
+use exact_matrix::{Matrix, Stop, invert};
 use frac_core::{Frac, Memory, Vector};
 use std::alloc::Global;
 use std::marker::Model;
@@ -42,7 +44,43 @@ impl Basis {
         requires few { width (problem m.now r.now) < 2 ^ 32 }
         ensures { IfOk result (λ b. b ≡ kept (problem m.now r.now) (unit_basis (problem m.now r.now))) }
     {
-        Err(Memory)
+        let count = r.len();
+        let columns = unit_columns(alloc, m.columns(), count)?;
+        let inverse = columns_matrix(alloc, m, &columns)?;
+        let point = r.copied()?;
+        let multipliers = Vector::filled(alloc, count, Frac::whole(1))?;
+        Ok(Basis {
+            columns,
+            inverse,
+            point,
+            multipliers,
+        })
+    }
+
+    // The basis of these columns, of which it is known that they are one.
+    fn of_columns(
+        alloc: Global,
+        m: &Matrix<Frac>,
+        r: &Vector<Frac>,
+        columns: Vector<u32>,
+    ) -> Result<Basis, Stop>
+        requires problem { IsProblem (problem m.now r.now) }
+        requires basis { (b : Tableau) × IsBasis (problem m.now r.now) b × (b.columns ≡ columns) }
+        ensures basis { (b : Tableau) → IsBasis (problem m.now r.now) b → b.columns ≡ columns → IfOk result (λ k. k ≡ kept (problem m.now r.now) b) }
+        ensures past { (b : Tableau) → IsBasis (problem m.now r.now) b → b.columns ≡ columns → IfErr result (IsStopOf (basis_ops (problem m.now r.now) b)) }
+    {
+        let matrix = columns_matrix(alloc, m, &columns)?;
+        let Some(inverse) = invert(alloc, &matrix)? else {
+            unreachable!()
+        };
+        let point = products(alloc, &inverse, r)?;
+        let multipliers = multipliers(alloc, m.columns(), &columns, &inverse)?;
+        Ok(Basis {
+            columns,
+            inverse,
+            point,
+            multipliers,
+        })
     }
 
     /// The columns, in the order of their places.
@@ -96,6 +134,9 @@ impl Basis {
         ensures err { OnErr result (self.new ≡ self.old) }
         ensures past { IfErr result (IsStopOf (basis_ops (problem m.now r.now) (exchanged (problem m.now r.now) (tableau self.old) enter leave))) }
     {
-        Err(Stop::Memory)
+        let mut columns = self.columns.copied()?;
+        columns.set(leave, enter);
+        *self = Basis::of_columns(alloc, m, r, columns)?;
+        Ok(())
     }
 }

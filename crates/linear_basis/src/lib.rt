@@ -2,5 +2,7 @@
 #![tactic(auto)]
 
 mod basis;
+mod columns;
+mod products;
 
 pub use basis::Basis;

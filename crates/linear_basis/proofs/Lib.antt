@@ -1,0 +1,3 @@
+mod Calculated
+mod Assembled
+mod Made
