@@ -1,8 +1,7 @@
 // Columns of a problem, and the matrix of a list of them.
 
-ghost use Rattle.std.specs.Prelude.{◌≡◌, ◌<◌, ◌≤◌, ◌+◌, ◌^◌, ◌++◌, length, IfOk, OnOk};
+ghost use Rattle.std.specs.Prelude.{◌≡◌, ◌<◌, ◌+◌, ◌^◌, ◌++◌, length, IfOk, OnOk};
 ghost use Rattle.std.specs.List.{range_with_len};
-ghost use Rattle.exact_matrix.specs.Grid.{IsGrid};
 ghost use Rattle.linear_basis.specs.Calculation.{column_entry, columns_row, columns_rows};
 
 use exact_matrix::Matrix;

@@ -6,3 +6,6 @@ mod columns;
 mod products;
 
 pub use basis::Basis;
+
+#[cfg(test)]
+mod tests;
