@@ -10,6 +10,7 @@ ghost use Rattle.form_law.specs.Form.{direction_of, multipliers_of, point_of};
 ghost use Rattle.form_law.specs.Calculation.{point_in, point_ops, ray_in, ray_ops};
 ghost use Rattle.equational.specs.Formed.{formed, IsAnswer, IsAnswerOf};
 
+use crate::back::{Carried, columns_back, rows_back};
 use exact_matrix::{Matrix, Stop};
 use frac_core::{Frac, Memory, Vector};
 use program_law::Row;
@@ -19,8 +20,8 @@ use std::marker::Model;
 // The first equation of a row of the file, and whether it was negated.
 #[derive(Clone, Copy)]
 pub(crate) struct First {
-    equation: usize,
-    negated: bool,
+    pub(crate) equation: usize,
+    pub(crate) negated: bool,
 }
 
 /// The equational form of a program in a region: minimise `½ z^T Q z + c·z + c0` where `M z = r` and z is not below 0; with how its
@@ -43,9 +44,9 @@ impl Model for Form {
     ghost Value = { Formed };
 
     ghost view = { λ f. record {
-        form = record { matrix = f.matrix.rows; right = f.right; quadratic = f.quadratic.rows; cost = f.cost; constant = f.constant };
-        region = f.bounds.items;
-        firsts = f.firsts.items;
+      form = record { matrix = f.matrix.rows; right = f.right; quadratic = f.quadratic.rows; cost = f.cost; constant = f.constant };
+      region = f.bounds.items;
+      firsts = f.firsts.items;
     } };
 
     ghost invariant = { λ f. IsKept f.matrix.columns f.quadratic.columns f.bounds.items f.firsts.items (record { matrix = f.matrix.rows; right = f.right; quadratic = f.quadratic.rows; cost = f.cost; constant = f.constant }) };
@@ -103,7 +104,7 @@ impl Form {
         ensures operations { IsAnswerOf (point_ops self.now.region z.now) result }
         ensures exact { IfOk result (λ x. x ≡ point_of self.now.region z.now) }
     {
-        Err(Stop::Memory)
+        columns_back(alloc, Carried::Point, &self.bounds, z)
     }
 
     /// The direction of a ray, over the file's columns: `d`, `-d`, or `d - d'`.
@@ -117,7 +118,7 @@ impl Form {
         ensures operations { IsAnswerOf (ray_ops self.now.region d.now) result }
         ensures exact { IfOk result (λ x. x ≡ direction_of self.now.region d.now) }
     {
-        Err(Stop::Memory)
+        columns_back(alloc, Carried::Direction, &self.bounds, d)
     }
 
     /// The multipliers of the file's rows: of each row that of its first equation, negated where that equation was.
@@ -126,7 +127,6 @@ impl Form {
         ensures { IfOk result (λ ys. (p : Program) (region : Region) → IsProgram p → self.now ≡ formed p region →
             ys ≡ multipliers_of p region y.now) }
     {
-        Err(Memory)
+        rows_back(alloc, &self.firsts, y)
     }
 }
-
