@@ -3,6 +3,10 @@
 
 mod answers;
 mod chain;
+mod pricing;
+mod products;
+mod ratio;
+mod verdicts;
 
 pub use answers::{Feasible, LinearStop};
 pub use chain::feasible;

@@ -1,0 +1,6 @@
+mod Numbers
+mod Dots
+mod Ratios
+mod Solutions
+mod Turns
+mod Reached

@@ -1,0 +1,9 @@
+use Rattle.std.proofs.Common.{◌≡◌, drop}
+use Rattle.frac_core.specs.Dot.{dot_from, dot_of}
+use Rattle.frac_core.specs.Parts.{max_part}
+use Rattle.linear_simplex.specs.Steps.{answered}
+use Rattle.linear_simplex.proofs.products.row_product.Given as goal
+
+-- the sum so far and what is left give the whole
+abbrev pub invariant-loop-i : goal.invariant-loop-i
+invariant-loop-i l = dot_from max_part l.total (drop l.i l.row) (drop l.i l.v) ≡ dot_of max_part l.row l.v
