@@ -1,6 +1,6 @@
 -- What a basis gives, place after place.
-use Rattle.std.specs.Prelude.{◌≡◌, ◌≢◌, ℕ, zero, suc, ◌+◌, ◌<◌, ◌≤◌, ◌⊎◌, List, [], ◌∷◌, ◌++◌, length, map, take, replicate, slice_get, slice_set, slice_index_or, Some, All, AllPairs, Bool, true, false}
-use Rattle.std.proofs.Common.{inl, inr, ⊎_elim, arith, sym, ap, ◌∙◌, subst, refl}
+use Rattle.std.specs.Prelude.{◌≡◌, ◌≢◌, ℕ, zero, suc, ◌+◌, ◌<◌, ◌≤◌, ◌⊎◌, List, [], ◌∷◌, ◌++◌, length, map, take, replicate, slice_get, slice_set, slice_index_or, Some, All, AllPairs, Bool, true}
+use Rattle.std.proofs.Common.{inl, inr, arith, sym, ap, ◌∙◌, subst, refl}
 use Rattle.std.proofs.lemmas.List.{take_all}
 use Rattle.std.proofs.lemmas.List.Elements.{All-nil, All-cons}
 use Rattle.std.proofs.lemmas.Option.{get_or_from_slice_get}
@@ -11,7 +11,7 @@ use Rattle.rational.specs.Order.{◌<ℚ◌, same_fields, same_fields_lem}
 use Rattle.rational.specs.Sums.{entry}
 use Rattle.rational.specs.Vectors.{scale, unit_vector, zeros, put_at, add_each, row_at}
 use Rattle.rational.proofs.Field.{rationals}
-use Rattle.rational.proofs.Vectors.{length-scale, length-unit_vector, length-zeros, entry-add_each, entry-scale, entry-zeros, entry-unit_vector_same, entry-unit_vector_other, same_by_entries}
+use Rattle.rational.proofs.Vectors.{length-scale, length-unit_vector, length-zeros, entry-add_each, entry-scale, entry-unit_vector_same, entry-unit_vector_other, same_by_entries}
 use Rattle.rational.proofs.Supports.{length-put_at, put_at_off, rest_differ}
 use Rattle.rational.proofs.Order.{ordered_rationals, lt_irrefl}
 use Rattle.basis_law.specs.Problem.{Problem, height, column_of}

@@ -1,9 +1,9 @@
-use Rattle.std.proofs.Common.{arith, ◌≡◌, ◌∙◌, subst, refl}
+use Rattle.std.proofs.Common.{arith, ◌≡◌, ◌∙◌, subst}
 use Rattle.std.proofs.lemmas.Result.{err_from_is_err_and}
 use Rattle.linear_basis.specs.Kept.{problem, tableau}
 use Rattle.linear_simplex.specs.Decided.{IsSpentAt}
 use Rattle.linear_simplex.specs.Turns.{IsNext}
-use Rattle.linear_simplex.proofs.Reached.{at_start, is_kept, answer_of, answer_true, stops_at, stops_near, next_reached, spent}
+use Rattle.linear_simplex.proofs.Reached.{is_kept, answer_of, answer_true, stops_at, stops_near, next_reached, spent}
 use Rattle.linear_simplex.proofs.chain.feasible.Goals as goal
 
 pub next-requires : goal.next-requires
