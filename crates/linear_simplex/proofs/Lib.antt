@@ -4,3 +4,4 @@ mod Ratios
 mod Solutions
 mod Turns
 mod Reached
+mod Equations

@@ -10,3 +10,6 @@ mod verdicts;
 
 pub use answers::{Feasible, LinearStop};
 pub use chain::feasible;
+
+#[cfg(test)]
+mod tests;
