@@ -9,11 +9,12 @@ use Rattle.std.proofs.lemmas.List.{take_all}
 use Rattle.std.proofs.lemmas.List.Elements.{Contains-append_left, Contains-append_right, Contains-get_or}
 use Rattle.std.proofs.lemmas.Option.{get_or_from_slice_get, slice_get-get_or}
 use Rattle.rational.specs.Rational.{ℚ, zero_ℚ, ◌*ℚ◌, ◌/ℚ◌, reciprocal}
-use Rattle.rational.specs.Order.{◌<ℚ◌, rational_cmp}
+use Rattle.rational.specs.Order.{◌<ℚ◌, rational_cmp, same_fields, same_fields_lem}
 use Rattle.rational.specs.Sums.{entry}
 use Rattle.rational.specs.Vectors.{scale, row_at, rows_dot, dot}
 use Rattle.rational.proofs.Vectors.{length-rows_dot}
 use Rattle.rational.proofs.Field.{rationals}
+use Rattle.algebra.proofs.Ring as laws
 use Rattle.basis_law.specs.Lexicographic.{IsLexBelow}
 use Rattle.basis_law.specs.Exchange.{quotient_row}
 use Rattle.basis_law.proofs.Lexicographic.{below_irrefl, below_trans}
@@ -259,3 +260,10 @@ test_not_less o b e f h = absurd (let bad : true ≡ false = sym (ap (λ o. orde
 
 pub positive_entry : (ts : List ℚ) (k : ℕ) (s : ℚ) (b : Bool) → slice_get ts k ≡ Some s → IsTrue b ↔ (zero_ℚ <ℚ s) → b ≡ true → zero_ℚ <ℚ entry ts k
 positive_entry ts k s b e h f = subst (λ s. zero_ℚ <ℚ s) (sym (entry_is ts k s e)) (h.0 (search rules))
+
+zero_over : (a t : ℚ) → a ≡ zero_ℚ → a /ℚ t ≡ zero_ℚ
+zero_over a t e = ap (λ a. a /ℚ t) e ∙ laws.zero_mul rationals (reciprocal t)
+
+-- two zeros need no division
+pub zero_quotients : (a s b t : ℚ) → same_fields a zero_ℚ ≡ true → same_fields b zero_ℚ ≡ true → Equal ≡ rational_cmp (a /ℚ s) (b /ℚ t)
+zero_quotients a s b t e f = sym (same_is (a /ℚ s) (b /ℚ t) (zero_over a s (same_fields_lem a zero_ℚ e) ∙ sym (zero_over b t (same_fields_lem b zero_ℚ f))))

@@ -1,10 +1,9 @@
 -- A chain that ends at a basis, with its answer, its refusals and its next basis.
 use Rattle.std.specs.Prelude.{◌≡◌, ℕ, ◌+◌, ◌<◌, ◌≤◌, List, [], ◌∷◌}
 use Rattle.std.proofs.Common.{⊎_elim, arith, sym, subst, refl}
-use Rattle.basis_law.specs.Problem.{Problem, IsProblem}
+use Rattle.basis_law.specs.Problem.{Problem, IsProblem, IsSolution, IsFarkas}
 use Rattle.basis_law.specs.Basis.{Tableau, IsBasis, IsStanding, IsZeroCost, unit_basis}
 use Rattle.basis_law.proofs.Verdicts.{gives_solution, gives_farkas}
-use Rattle.basis_law.specs.Problem.{IsSolution, IsFarkas}
 use Rattle.chain_law.specs.Chain.{IsEntering, IsStrictStep, EndsChain, EndsWithin}
 use Rattle.chain_law.proofs.Steps.{last_basis, last_standing, ratio_steps}
 use Rattle.linear_basis.specs.Kept.{Kept, tableau, kept}
