@@ -1,1 +1,3 @@
 pub mod Decided
+pub mod Steps
+pub mod Turns

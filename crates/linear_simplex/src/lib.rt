@@ -3,6 +3,13 @@
 
 mod answers;
 mod chain;
+mod pricing;
+mod products;
+mod ratio;
+mod verdicts;
 
 pub use answers::{Feasible, LinearStop};
 pub use chain::feasible;
+
+#[cfg(test)]
+mod tests;

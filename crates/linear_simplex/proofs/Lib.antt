@@ -1,0 +1,7 @@
+mod Numbers
+mod Dots
+mod Ratios
+mod Solutions
+mod Turns
+mod Reached
+mod Equations
