@@ -6,3 +6,6 @@ mod sites;
 
 pub use feasibility::{AnyPoint, any_point};
 pub use sites::{RelaxStop, Site, Task};
+
+#[cfg(test)]
+mod tests;
