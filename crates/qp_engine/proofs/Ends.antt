@@ -1,11 +1,11 @@
 -- How a run that met what was due ended.
-use Rattle.std.proofs.Common.{◌≡◌, ◌≢◌, ℕ, ◌≤◌, ◌<◌, List, [], ◌∷◌, ◌++◌, length, Option, Some, None, IfSome, Result, Ok, Err, Bool, true, false, sym, refl, subst, ◌∙◌, append-nil, codes, arith}
+use Rattle.std.proofs.Common.{◌≡◌, ◌≢◌, ℕ, ◌≤◌, ◌<◌, List, [], ◌∷◌, ◌++◌, length, Option, Some, None, IfSome, Result, Ok, Err, Bool, true, false, sym, refl, subst, ◌∙◌, append-nil, codes, arith, inl, inr}
 use Rattle.std.specs.Io.KnownBytes.{Appends, Keeps}
 use Rattle.std.proofs.lemmas.Bool.{le-ltb, lt-ltb}
 use Rattle.qp_streams.specs.Streams.{TakesFront}
 use Rattle.qp_engine.specs.Said.{Said}
-use Rattle.qp_engine.specs.Due.{longest, due, file_due}
-use Rattle.qp_engine.specs.Runs.{HasText, Meets}
+use Rattle.qp_engine.specs.Due.{longest, file_due, IsDue}
+use Rattle.qp_engine.specs.Runs.{HasText, Meets, MeetsDue, IsBeforeText, Settles, HasSettled}
 use Rattle.qp_engine.specs.declared.tasks.Task.{Task}
 use Rattle.qp_engine.proofs.Judged.{long_due}
 use Rattle.qp_engine.specs.declared.status.Status.{Status}
@@ -46,6 +46,20 @@ ended due status.Memory old new m h = absurd h
 
 -- ---- an input that is told
 
-pub refused_long : (task : Task) (left : Option (List ℕ)) (a : Said) → IfSome left (λ input. longest < length input) → a ≡ file_due 0 (codes "TextLong") → IfSome left (λ input. a ≡ due task input)
+pub refused_long : (task : Task) (left : Option (List ℕ)) (a : Said) → IfSome left (λ input. longest < length input) → a ≡ file_due 0 (codes "TextLong") → IfSome left (λ input. IsDue task input a)
 refused_long task None a long e = tt
-refused_long task (Some input) a long e = e ∙ sym (long_due task input long)
+refused_long task (Some input) a long e = long_due task input a long e
+
+pub stopped : (left : Option (List ℕ)) (IsDueFor : List ℕ → Said → Type 0) (s : Status) (old new : Option (List ℕ)) → IsBeforeText s → Keeps old new → IfSome left (λ input. MeetsDue (IsDueFor input) s old new)
+stopped None IsDueFor s old new b k = tt
+stopped (Some input) IsDueFor s old new b k = inl (b, k)
+
+pub met : (left : Option (List ℕ)) (IsDueFor : List ℕ → Said → Type 0) (a : Said) (s : Status) (old new : Option (List ℕ)) → IfSome left (λ input. IsDueFor input a) → Meets a s old new
+    → IfSome left (λ input. MeetsDue (IsDueFor input) s old new)
+met None IsDueFor a s old new d m = tt
+met (Some input) IsDueFor a s old new d m = inr (a, d, m)
+
+pub settled : (task : Task) (left : Option (List ℕ)) (a : Said) (s : Status) (old new : Option (List ℕ)) → Meets a s old new → s ≡ status.Done
+    → (a.status ≡ status.Done → IfSome left (λ input. Settles task input a.text)) → IfSome left (λ input. HasSettled task input old new)
+settled task None a s old new m e h = tt
+settled task (Some input) a s old new m e h = let done : Meets a status.Done old new = subst (λ s. Meets a s old new) e m in (a.text, done.1, h done.0)

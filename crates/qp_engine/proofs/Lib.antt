@@ -1,2 +1,4 @@
 pub mod Ends
 pub mod Judged
+pub mod Solved
+pub mod Written

@@ -1,14 +1,8 @@
 -- How a run is to end for its task and its input, and what it is to write.
-use Rattle.std.specs.Prelude.{ℕ, ◌+◌, ◌-◌, List, [], ◌∷◌, ◌++◌, length, drop, Option, Some, None, Result, Ok, Err, if◌then◌else◌, nat_lt, codes}
+use Rattle.std.specs.Prelude.{◌≡◌, ℕ, Bool, true, false, ◌+◌, ◌-◌, List, [], ◌∷◌, ◌++◌, length, drop, Option, Some, None, Result, Ok, Err, nat_lt, codes}
 use Rattle.std.specs.Fmt.{decimal}
-use Rattle.rational.specs.Rational.{ℚ}
-use Rattle.frac_core.specs.Text.{text_of}
-use Rattle.frac_core.specs.declared.fractions.Op.{Op}
-use Rattle.frac_core.specs.declared.fractions.Op.TheVariants as op
-use Rattle.frac_core.specs.declared.fractions.Refused.{Refused}
 use Rattle.program_law.specs.Program.{Program}
 use Rattle.certificate_law.specs.declared.Certificate.{Certificate}
-use Rattle.certificate_law.specs.declared.Certificate.TheVariants.{NotConvex}
 use Rattle.check_law.specs.Check.{checked, answer}
 use Rattle.check_law.specs.declared.Checked.{Checked}
 use Rattle.check_law.specs.declared.Checked.TheVariants.{Accepted, Rejected, Past}
@@ -17,15 +11,15 @@ use Rattle.mps_grammar.specs.Words.{word_of}
 use Rattle.mps_grammar.specs.Verdict.{Fault}
 use Rattle.mps_grammar.specs.Reading.{Spot, read_of, rest_of}
 use Rattle.mps_writer.specs.Canonical.{text_of_program}
-use Rattle.convexity.specs.declared.Curvature.{Curvature}
-use Rattle.convexity.specs.declared.Curvature.TheVariants.{Squares, Negative}
-use Rattle.convexity.specs.ReductionCalculation.{squares_of}
 use Rattle.cert_text.specs.declared.kinds.CertKind.{CertKind}
 use Rattle.cert_text.specs.declared.kinds.CertKind.TheVariants as cert
 use Rattle.cert_text.specs.Text.{certificate_text}
 use Rattle.cert_text.specs.Reading.{Answer}
 use Rattle.cert_text.specs.Reading as reading
+use Rattle.quad_solve.specs.declared.sites.Site.TheVariants as site
 use Rattle.qp_engine.specs.Said.{Said}
+use Rattle.qp_engine.specs.Withheld.{past_text, bases_text}
+use Rattle.qp_engine.specs.Outcomes.{Outcome, Found, Spent, Stopped, Unsolved, IsOutcome}
 use Rattle.qp_engine.specs.declared.tasks.Task.{Task}
 use Rattle.qp_engine.specs.declared.tasks.Task.TheVariants.{Check, Write, Solve}
 use Rattle.qp_engine.specs.declared.status.Status.{Status}
@@ -45,6 +39,10 @@ said s text = record { status = s; text = text }
 abbrev pub usage_due : Said
 usage_due = said status.Usage usage_line
 
+-- how many strict steps a chain may take
+abbrev pub bases : ℕ
+bases = 100000
+
 -- ---- faults of the input
 
 -- an input that isn't taken: the line and the kind of its fault
@@ -61,26 +59,13 @@ certificate_word cert.CertNumber = codes "CertNumber"
 certificate_word cert.CertOrder = codes "CertOrder"
 certificate_word cert.CertMany = codes "CertMany"
 
--- ---- withheld verdicts
-
-abbrev pub op_word : Op → List ℕ
-op_word op.Add = codes "ADD"
-op_word op.Sub = codes "SUB"
-op_word op.Mul = codes "MUL"
-op_word op.Div = codes "DIV"
-
--- an operation whose result doesn't fit, at a site of the calculation
-abbrev pub past_text : List ℕ → Refused → List ℕ
-past_text site r =
-    codes "WITHHELD PAST\nSITE " ++ (site ++ (codes "\nOP " ++ (op_word r.op ++ (codes " " ++ (text_of r.left ++ (codes " " ++ (text_of r.right ++ codes "\nEND\n")))))))
-
 -- ---- check
 
 -- the answer of the checking calculation: accepted, a rule and its place, or an operation whose result doesn't fit
 abbrev pub answer_due : Checked → Said
 answer_due Accepted = said status.Done (codes "ACCEPTED\n")
 answer_due (Rejected rule place) = said status.Rejected (codes "REJECTED " ++ (decimal rule ++ (codes " " ++ (decimal place ++ codes "\n"))))
-answer_due (Past r) = said status.Withheld (past_text (codes "CHECK") r)
+answer_due (Past r) = said status.Withheld (past_text site.Check r)
 
 abbrev pub certificate_due : Program → Answer → Said
 certificate_due p (Err fault) = file_due fault.0 (certificate_word fault.1)
@@ -93,10 +78,6 @@ check_due p input (Some spot) = certificate_due p (reading.read_of p spot.1 (dro
 
 -- ---- write and solve: nothing but blank lines and comments may stand behind the program
 
-abbrev pub alone : Option Spot → Said → Said
-alone None due = due
-alone (Some spot) due = file_due spot.1 (codes "SectionOrder")
-
 abbrev pub write_due : Program → Said
 write_due p = said status.Done (text_of_program p)
 
@@ -104,29 +85,39 @@ write_due p = said status.Done (text_of_program p)
 abbrev pub found_due : Program → Certificate → Checked → Said
 found_due p c Accepted = said status.Done (certificate_text p c)
 found_due p c (Rejected rule place) = answer_due (Rejected rule place)
-found_due p c (Past r) = said status.Withheld (past_text (codes "CHECK") r ++ certificate_text p c)
+found_due p c (Past r) = said status.Withheld (past_text site.Check r ++ certificate_text p c)
 
--- A program that isn't convex is told by a vector. Other programs aren't solved yet.
-abbrev pub curvature_due : Program → ℕ → Result Curvature Refused → Said
-curvature_due p line (Err r) = said status.Withheld (past_text (codes "SQUARES") r)
-curvature_due p line (Ok (Squares ss)) = file_due line (codes "NotYet")
-curvature_due p line (Ok (Negative v)) = found_due p (NotConvex v) (answer (checked p (NotConvex v)))
+-- what is written for an outcome of a program whose ENDATA stands in this line
+abbrev pub outcome_due : Program → ℕ → Outcome → Said
+outcome_due p line (Found c) = found_due p c (answer (checked p c))
+outcome_due p line (Spent place) = said status.Withheld (bases_text bases place)
+outcome_due p line (Stopped place r) = said status.Withheld (past_text place r)
+outcome_due p line Unsolved = file_due line (codes "NotYet")
 
--- the line of ENDATA stands before the place behind it
-abbrev pub solve_due : Program → Spot → Said
-solve_due p spot = curvature_due p (spot.1 - 1) (squares_of p.pairs)
+-- what may be written for a program that is to be decided
+pub record IsSolveDue (p : Program) (line : ℕ) (s : Said) : Type 0 where
+  pub outcome : Outcome
+  pub comes : IsOutcome p bases outcome
+  pub written : s ≡ outcome_due p line outcome
 
 -- ---- a task
 
-abbrev pub task_due : Task → List ℕ → Program → Spot → Said
-task_due Check input p spot = check_due p input (rest_of input spot)
-task_due Write input p spot = alone (rest_of input spot) (write_due p)
-task_due Solve input p spot = alone (rest_of input spot) (solve_due p spot)
+-- the line of ENDATA stands before the place behind it
+abbrev pub IsProgramDue : Task → List ℕ → Program → Spot → Option Spot → Said → Type 0
+IsProgramDue Check input p behind more s = s ≡ check_due p input more
+IsProgramDue Write input p behind None s = s ≡ write_due p
+IsProgramDue Write input p behind (Some more) s = s ≡ file_due more.1 (codes "SectionOrder")
+IsProgramDue Solve input p behind None s = IsSolveDue p (behind.1 - 1) s
+IsProgramDue Solve input p behind (Some more) s = s ≡ file_due more.1 (codes "SectionOrder")
 
-abbrev pub program_due : Task → List ℕ → Result (Program × Spot) Fault → Said
-program_due task input (Err fault) = file_due fault.0 (word_of fault.1)
-program_due task input (Ok r) = task_due task input r.0 r.1
+abbrev pub IsReadDue : Task → List ℕ → Result (Program × Spot) Fault → Said → Type 0
+IsReadDue task input (Err fault) s = s ≡ file_due fault.0 (word_of fault.1)
+IsReadDue task input (Ok r) s = IsProgramDue task input r.0 r.1 (rest_of input r.1) s
 
--- what is due for a task and an input
-unfoldable pub due : Task → List ℕ → Said
-due task input = if nat_lt longest (length input) then file_due 0 (codes "TextLong") else program_due task input (read_of input)
+abbrev pub IsDueBy : Bool → Task → List ℕ → Said → Type 0
+IsDueBy true task input s = s ≡ file_due 0 (codes "TextLong")
+IsDueBy false task input s = IsReadDue task input (read_of input) s
+
+-- what may be due for a task and an input
+unfoldable pub IsDue : Task → List ℕ → Said → Type 0
+IsDue task input s = IsDueBy (nat_lt longest (length input)) task input s

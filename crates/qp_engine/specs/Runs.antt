@@ -1,5 +1,5 @@
 -- What a run did, as against what was due.
-use Rattle.std.specs.Prelude.{◌≡◌, ℕ, List, [], ◌∷◌, Option, Some, None, IsSomeAnd, Result, Ok, IsOkAnd, Bool, true, false, ⊤, codes, drop, string_bytes, bytes_eq, String, if◌then◌else◌}
+use Rattle.std.specs.Prelude.{◌≡◌, ◌⊎◌, ℕ, List, [], ◌∷◌, Option, Some, None, IsSomeAnd, Result, Ok, IsOkAnd, Bool, true, false, ⊤, codes, drop, string_bytes, bytes_eq, String, if◌then◌else◌}
 use Rattle.std.specs.Io.KnownBytes.{Appends, Keeps}
 use Rattle.program_law.specs.Program.{Program}
 use Rattle.program_law.specs.Verdict.{IsTrueOf}
@@ -51,6 +51,14 @@ Meets due status.Usage old new = (due.status ≡ status.Usage) × Appends old ne
 Meets due status.Withheld old new = (due.status ≡ status.Withheld) × Appends old new due.text
 Meets due status.Rejected old new = (due.status ≡ status.Rejected) × Appends old new due.text
 
+-- a status that may come before the first byte is written
+abbrev pub IsBeforeText : Status → Type 0
+IsBeforeText s = (s ≡ status.Memory) ⊎ (s ≡ status.ReadFault)
+
+-- The run stopped before its first byte, and nothing was taken; or it met an answer that is due.
+abbrev pub MeetsDue : (Said → Type 0) → Status → Option (List ℕ) → Option (List ℕ) → Type 0
+MeetsDue IsDue s old new = (IsBeforeText s × Keeps old new) ⊎ ((due : Said) × IsDue due × Meets due s old new)
+
 -- ---- what a verdict that was printed says
 
 -- Behind a program, from this place on, stands a certificate whose verdict is true of all points of the program.
@@ -75,7 +83,11 @@ SettlesProgram Check input text p behind = HasVerified p input (rest_of input be
 SettlesProgram Write input text p behind = ⊤
 SettlesProgram Solve input text p behind = HasSolved p text
 
--- What Done says of an input and of the text that was due: the input is a program, and for `check` a certificate follows whose verdict is
+-- What Done says of an input and of the text that was written: the input is a program, and for `check` a certificate follows whose verdict is
 -- true of it; for `solve` the text is that of such a certificate.
 abbrev pub Settles : Task → List ℕ → List ℕ → Type 0
 Settles task input text = IsOkAnd (read_of input) (λ r. SettlesProgram task input text r.0 r.1)
+
+-- what was written settles the input
+abbrev pub HasSettled : Task → List ℕ → Option (List ℕ) → Option (List ℕ) → Type 0
+HasSettled task input old new = (text : List ℕ) × Appends old new text × Settles task input text

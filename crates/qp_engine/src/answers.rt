@@ -1,14 +1,16 @@
 //! The text that is to be written, and the status that comes with it.
 
 ghost use Rattle.std.specs.Prelude.{◌≡◌, ◌++◌, IfOk, string_bytes};
-ghost use Rattle.qp_engine.specs.Due.{said, usage_due, file_due, answer_due, op_word, past_text, certificate_word};
+ghost use Rattle.qp_engine.specs.Due.{said, usage_due, file_due, answer_due, certificate_word};
 ghost use Rattle.qp_engine.specs.Runs.{HasText};
 ghost use Rattle.qp_engine.specs.declared.status.Status.TheVariants as statuses;
 
 use crate::status::Status;
+use crate::withheld::past_text;
 use cert_text::CertKind;
 use check_law::Checked;
-use frac_core::{Memory, Op, Refused};
+use frac_core::Memory;
+use quad_solve::Site;
 use std::alloc::Global;
 use std::marker::Model;
 
@@ -87,27 +89,6 @@ pub(crate) fn certificate_word(kind: CertKind) -> &'static str
     }
 }
 
-fn op_word(op: Op) -> &'static str
-    ensures { result.now ≡ op_word op }
-{
-    match op {
-        Op::Add => "ADD",
-        Op::Sub => "SUB",
-        Op::Mul => "MUL",
-        Op::Div => "DIV",
-    }
-}
-
-/// The text of a withheld verdict, by the site and the operation whose result doesn't fit.
-pub(crate) fn past_text(alloc: Global, site: &str, refused: Refused) -> Result<Vec<u8>, Memory>
-    ensures { IfOk result (λ v. v.items ≡ past_text site.now refused) }
-{
-    let Refused { op, left, right } = refused;
-    let word = op_word(op);
-    let text = format!(in alloc; "WITHHELD PAST\nSITE {site}\nOP {word} {left} {right}\nEND\n")?;
-    Ok(text.into_bytes())
-}
-
 /// The answer of a check.
 pub(crate) fn told(alloc: Global, checked: Checked) -> Result<Answer, Memory>
     ensures { IfOk result (λ a. a ≡ answer_due checked) }
@@ -122,7 +103,7 @@ pub(crate) fn told(alloc: Global, checked: Checked) -> Result<Answer, Memory>
             Ok(Answer::of(Status::Rejected, text.into_bytes()))
         }
         Checked::Past(refused) => {
-            let text = past_text(alloc, "CHECK", refused)?;
+            let text = past_text(alloc, &Site::Check, refused)?;
             Ok(Answer::of(Status::Withheld, text))
         }
     }

@@ -1,27 +1,18 @@
 //! What is to be written for an input, and how the run is to end.
 
 ghost use Rattle.std.specs.Prelude.{◌≡◌, ◌≢◌, ◌≤◌, ◌+◌, ◌-◌, ◌<◌, ◌^◌, length, codes, IfOk};
-ghost use Rattle.program_law.specs.Verdict.{IsTrueOf};
-ghost use Rattle.certificate_law.specs.Good.{IsGood, verdict_of};
-ghost use Rattle.certificate_law.specs.declared.Certificate.TheVariants.{NotConvex};
-ghost use Rattle.check_law.specs.Check.{checked, answer};
 ghost use Rattle.mps_grammar.specs.Reading.{read_of, rest_of};
-ghost use Rattle.qp_engine.specs.Due.{due, file_due, check_due, write_due, found_due, curvature_due, task_due};
-ghost use Rattle.qp_engine.specs.Runs.{Settles, SettlesProgram, HasVerified, HasSolved};
+ghost use Rattle.qp_engine.specs.Due.{file_due, check_due, write_due, IsDue, IsProgramDue};
+ghost use Rattle.qp_engine.specs.Runs.{Settles, SettlesProgram, HasVerified};
 ghost use Rattle.mps_tokens.specs.Lines.{raw_lines};
 ghost use Rattle.mps_lines.specs.Reading.{spot_of, IsPlaceIn};
-ghost use Rattle.cert_text.specs.Writable.{IsWritable};
-ghost use Rattle.convexity.specs.ReductionCalculation.{squares_of};
 
-use crate::answers::{Answer, certificate_word, past_text, refused, told};
+use crate::answers::{Answer, certificate_word, refused, told};
+use crate::solving::decided;
 use crate::status::Status;
 use crate::tasks::Task;
 use cert_check::check;
-use cert_text::{CertStop, read_certificate, write_certificate};
-use certificate_law::Certificate;
-use check_law::{Checked, good_fails_no_test};
-use convexity::{Curvature, squares};
-use exact_matrix::Stop;
+use cert_text::{CertStop, read_certificate};
 use frac_core::Memory;
 use mps_reader::{Place, ReadStop, read, rest};
 use mps_tokens::next_line;
@@ -76,48 +67,6 @@ fn written(alloc: Global, program: &Program) -> Result<Answer, Memory>
     Ok(Answer::of(Status::Done, text))
 }
 
-/// The answer that is a found certificate, which is checked before it is printed.
-fn found(alloc: Global, program: &Program, certificate: &Certificate) -> Result<Answer, Memory>
-    requires fits { IsWritable program.now certificate.now }
-    requires good { IsGood program.now certificate.now }
-    ensures due { IfOk result (λ a. a ≡ found_due program.now certificate.now (answer (checked program.now certificate.now))) }
-    ensures holds { IfOk result (λ a. a.status ≡ Status.Done → HasSolved program.now a.text) }
-    ensures no_usage { IfOk result (λ a. a.status ≢ Status.Usage) }
-{
-    good_fails_no_test();
-    let _rows = program.rows();
-    match check(alloc, program, certificate)? {
-        Checked::Accepted => {
-            let mut text = Vec::new(alloc);
-            write_certificate(program, certificate, &mut text)?;
-            Ok(Answer::of(Status::Done, text))
-        }
-        Checked::Past(refused) => {
-            let mut text = past_text(alloc, "CHECK", refused)?;
-            write_certificate(program, certificate, &mut text)?;
-            Ok(Answer::of(Status::Withheld, text))
-        }
-        Checked::Rejected { .. } => unreachable!(),
-    }
-}
-
-/// The answer to a program, whose ENDATA stands in a line.
-fn decided(alloc: Global, program: &Program, line: u32) -> Result<Answer, Memory>
-    ensures due { IfOk result (λ a. a ≡ curvature_due program.now line (squares_of program.now.pairs)) }
-    ensures holds { IfOk result (λ a. a.status ≡ Status.Done → HasSolved program.now a.text) }
-    ensures no_usage { IfOk result (λ a. a.status ≢ Status.Usage) }
-{
-    match squares(alloc, program) {
-        Ok(Curvature::Negative(vector)) => found(alloc, program, &Certificate::NotConvex(vector)),
-        Ok(Curvature::Squares(_)) => refused(alloc, line as usize, "NotYet"),
-        Err(Stop::Past(past)) => {
-            let text = past_text(alloc, "SQUARES", past)?;
-            Ok(Answer::of(Status::Withheld, text))
-        }
-        Err(Stop::Memory) => Err(Memory),
-    }
-}
-
 /// The answer to a program behind which something stands.
 fn not_alone(alloc: Global, more: Place) -> Result<Answer, Memory>
     ensures due { IfOk result (λ a. a ≡ file_due more.line (codes "SectionOrder")) }
@@ -136,7 +85,7 @@ fn answered(
 ) -> Result<Answer, Memory>
     requires short { length input.now ≤ 1073741824 }
     requires place { IsPlaceIn input.now place }
-    ensures due { IfOk result (λ a. a ≡ task_due task input.now program.now (spot_of place)) }
+    ensures due { IfOk result (IsProgramDue task input.now program.now (spot_of place) (rest_of input.now (spot_of place))) }
     ensures settled { IfOk result (λ a. a.status ≡ Status.Done →
         SettlesProgram task input.now a.text program.now (spot_of place)) }
     ensures no_usage { IfOk result (λ a. a.status ≢ Status.Usage) }
@@ -157,7 +106,7 @@ fn answered(
 /// The answer to an input.
 pub(crate) fn judged(alloc: Global, task: Task, input: &[u8]) -> Result<Answer, Memory>
     requires { length input.now ≤ 1073741824 }
-    ensures due { IfOk result (λ a. a ≡ due task input.now) }
+    ensures due { IfOk result (IsDue task input.now) }
     ensures settled { IfOk result (λ a. a.status ≡ Status.Done → Settles task input.now a.text) }
     ensures no_usage { IfOk result (λ a. a.status ≢ Status.Usage) }
 {

@@ -4,8 +4,10 @@
 mod answers;
 mod judging;
 mod running;
+mod solving;
 mod status;
 mod tasks;
+mod withheld;
 
 pub use running::run;
 pub use status::Status;

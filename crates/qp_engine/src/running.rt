@@ -3,8 +3,8 @@
 ghost use Rattle.std.specs.Prelude.{◌≡◌, ◌≢◌, ◌<◌, ◌^◌, [], length, None, Some, IfSome, IfOk, OnOk, IsErrOf, string_bytes};
 ghost use Rattle.std.specs.Io.KnownBytes.{Keeps};
 ghost use Rattle.qp_io.specs.Causes.{Rose};
-ghost use Rattle.qp_engine.specs.Due.{due, usage_due};
-ghost use Rattle.qp_engine.specs.Runs.{task_of, Meets, Settles};
+ghost use Rattle.qp_engine.specs.Due.{usage_due, IsDue};
+ghost use Rattle.qp_engine.specs.Runs.{task_of, HasSettled, Meets, MeetsDue, Settles};
 
 use crate::answers::{Answer, refused, usage};
 use crate::judging::judged;
@@ -36,7 +36,7 @@ impl From<Memory> for NoAnswer {
 
 /// The answer to all that the source gives.
 fn answer_to<S: Source>(alloc: Global, task: Task, source: &mut S) -> Result<Answer, NoAnswer>
-    ensures due { IfOk result (λ a. IfSome (S.left source.old) (λ input. a ≡ due task input)) }
+    ensures due { IfOk result (λ a. IfSome (S.left source.old) (λ input. IsDue task input a)) }
     ensures settled { IfOk result (λ a. a.status ≡ Status.Done →
         IfSome (S.left source.old) (λ input. Settles task input a.text)) }
     ensures no_usage { IfOk result (λ a. a.status ≢ Status.Usage) }
@@ -71,7 +71,7 @@ fn written<T: Sink>(sink: &mut T, answer: &Answer) -> Status
 /// Runs the program: reads all that the source gives, writes what is due for it, and answers how it ended.
 ///
 /// The words are one word, a task: `check` says whether the certificate behind a program holds; `write` writes a program's
-/// canonical text; `solve` decides a program, which for now it does only where the program isn't convex. Other words are answered
+/// canonical text; `solve` decides a program, which for now it does where the program isn't convex, or has no marks and no point. Other words are answered
 /// by the usage line, and nothing is read then. The whole text is built before its first byte is written.
 pub fn run<S: Source, T: Sink>(
     alloc: Global,
@@ -84,9 +84,9 @@ pub fn run<S: Source, T: Sink>(
     ensures unread { task_of words.now ≡ None → (source.new ≡ source.old) × (result ≢ Status.ReadFault) }
     ensures usage { result ≡ Status.Usage → task_of words.now ≡ None }
     ensures due { (task : Task) → task_of words.now ≡ Some task →
-        IfSome (S.left source.old) (λ input. Meets (due task input) result (T.taken sink.old) (T.taken sink.new)) }
+        IfSome (S.left source.old) (λ input. MeetsDue (IsDue task input) result (T.taken sink.old) (T.taken sink.new)) }
     ensures settled { (task : Task) → task_of words.now ≡ Some task → result ≡ Status.Done →
-        IfSome (S.left source.old) (λ input. Settles task input (due task input).text) }
+        IfSome (S.left source.old) (λ input. HasSettled task input (T.taken sink.old) (T.taken sink.new)) }
     ensures read_fault { result ≡ Status.ReadFault →
         Rose (S.faults source.old) (S.faults source.new) }
     ensures nothing_taken { result ≡ Status.ReadFault → Keeps (T.taken sink.old) (T.taken sink.new) }

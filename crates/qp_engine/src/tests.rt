@@ -408,6 +408,49 @@ fn programs_that_are_not_convex(rt: HostRuntime) -> Result<(), Fail> {
 }
 
 #[test]
+fn programs_without_points(rt: HostRuntime) -> Result<(), Fail> {
+    let alloc = rt.alloc();
+    for (program, status, text) in [
+        (
+            REFUTED,
+            Status::Done,
+            "INFEASIBLE\nFARKAS\nY r1 -1\nY r2 1\nEND\n",
+        ),
+        (
+            "ROWS\n N obj\nCOLUMNS\n x obj 1\nBOUNDS\n LO B x 2\n UP B x 1\nENDATA\n",
+            Status::Done,
+            "INFEASIBLE\nCROSS x\nEND\n",
+        ),
+        (
+            "ROWS\n N obj\nCOLUMNS\n x obj 170141183460469231731687303715884105727\n y obj 170141183460469231731687303715884105727\nBOUNDS\n LO B x 1\n LO B y 1\nENDATA\n",
+            Status::Withheld,
+            "WITHHELD PAST\nSITE FORM\nOP ADD 170141183460469231731687303715884105727 170141183460469231731687303715884105727\nEND\n",
+        ),
+        (
+            "ROWS\n N obj\n E a\n E b\nCOLUMNS\n x a 170141183460469231731687303715884105727 b 1\n y a 1 b 170141183460469231731687303715884105727\nRHS\n RHS a 1 b 1\nENDATA\n",
+            Status::Withheld,
+            "WITHHELD PAST\nSITE CHAIN FEASIBLE\nBASIC 3\nBASIC 4\nOP ADD 170141183460469231731687303715884105727 1\nEND\n",
+        ),
+        (
+            "ROWS\n N obj\nCOLUMNS\n x obj 1\nENDATA\n",
+            Status::FileRefused,
+            "FILE 5 NotYet\n",
+        ),
+        (
+            "ROWS\n N obj\nCOLUMNS\n M 'MARKER' 'INTORG'\n x obj 1\nBOUNDS\n LO B x 2\n UP B x 1\nENDATA\n",
+            Status::FileRefused,
+            "FILE 9 NotYet\n",
+        ),
+    ] {
+        assert!(rt;
+            answers(alloc, "solve", &[program], 4096, status, text)?,
+            "{program}"
+        );
+    }
+    Ok(())
+}
+
+#[test]
 fn faults_of_the_outside(rt: HostRuntime) -> Result<(), Fail> {
     let alloc = rt.alloc();
     let input = joined(alloc, &[REFUTED, REFUTATION])?;
