@@ -19,21 +19,21 @@ use std::marker::Model;
 // The first equation of a row of the file, and whether it was negated.
 #[derive(Clone, Copy)]
 pub(crate) struct First {
-    equation: usize,
-    negated: bool,
+    pub(crate) equation: usize,
+    pub(crate) negated: bool,
 }
 
 /// The equational form of a program in a region: minimise `½ z^T Q z + c·z + c0` where `M z = r` and z is not below 0; with how its
 /// columns and equations came from the program and the region.
 #[derive(Drop)]
 pub struct Form {
-    matrix: Matrix<Frac>,
-    right: Vector<Frac>,
-    quadratic: Matrix<Frac>,
-    cost: Vector<Frac>,
-    constant: Frac,
-    bounds: Vec<Row>,
-    firsts: Vec<First>,
+    pub(crate) matrix: Matrix<Frac>,
+    pub(crate) right: Vector<Frac>,
+    pub(crate) quadratic: Matrix<Frac>,
+    pub(crate) cost: Vector<Frac>,
+    pub(crate) constant: Frac,
+    pub(crate) bounds: Vec<Row>,
+    pub(crate) firsts: Vec<First>,
 }
 
 impl Model for Form {

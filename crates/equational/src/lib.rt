@@ -2,7 +2,15 @@
 #![tactic(auto)]
 
 mod calculation;
+mod equations;
 mod kept;
+mod layout;
+mod lists;
+mod objective;
+mod quadratic;
+mod rows;
+#[cfg(test)]
+mod tests;
 
 pub use calculation::form;
 pub use kept::Form;
