@@ -265,7 +265,10 @@ by_exact (Some l) (Some u) k row a es e = by (same_fields l u) e
     by true e = one_exact (operated max_part Sub l a) alone (l -ℚ a) es (difference_is l a) e
     by false e = two_exact (operated max_part Sub u a) (operated max_part Sub u l) both (u -ℚ a) (u -ℚ l) es (difference_is u a) (difference_is u l) e
 
-first_of : (low high : Option ℚ) (n : ℕ) (ss : List Row) (k : ℕ) (row : List ℚ) (a : ℚ) (others : List Equation) → IsSome low ⊎ IsSome high
+abbrev pub first : ℕ → Bool → First
+first n b = record { equation = n; negated = b }
+
+pub first_of : (low high : Option ℚ) (n : ℕ) (ss : List Row) (k : ℕ) (row : List ℚ) (a : ℚ) (others : List Equation) → IsSome low ⊎ IsSome high
     → firsts_from n (record { low = low; high = high } ∷ ss) (row_equations_by low high k row a ++ others)
     ≡ record { equation = n; negated = begins_negated (row_equations_by low high k row a) } ∷ firsts_from (n + length (row_equations_by low high k row a)) ss others
 first_of None None n ss k row a others h = elim h [ inl w ↦ absurd cc | inr w ↦ absurd cc ]
@@ -279,15 +282,9 @@ first_of (Some l) (Some u) n ss k row a others h = by (same_fields l u)
     count : Bool → ℕ
     count t = (cond {A = ℕ × ℕ} t (1, 0) (2, 2)).0
 
-    first : ℕ → Bool → First
-    first n b = record { equation = n; negated = b }
-
     by : (t : Bool) → first n (begins_negated (es t ++ others)) ∷ firsts_from (n + count t) ss (drop (count t) (es t ++ others)) ≡ first n (begins_negated (es t)) ∷ firsts_from (n + length (es t)) ss others
     by true = refl
     by false = refl
-
-abbrev first : ℕ → Bool → First
-first n b = record { equation = n; negated = b }
 
 pub first_on : (slacks : ℕ) (old new : Built) (region : Region) (h : List ℚ) (k i m count : ℕ) (ss : List Row) (rows : List (List ℚ)) (s : Row) (row : List ℚ) (a : ℚ) (n : Bool) (was now : List First) (more : List Equation) (whole : List First)
     → drop i ss ≡ s ∷ drop (i + 1) ss → drop i rows ≡ row ∷ drop (i + 1) rows → IsSome s.low ⊎ IsSome s.high → m ≡ slacks_at s → number (dot_of max_part row h) ≡ Ok a

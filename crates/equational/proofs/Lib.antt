@@ -5,3 +5,4 @@ pub mod Gathered
 pub mod Places
 pub mod Columns
 pub mod Pairs
+pub mod Whole

@@ -10,12 +10,13 @@ use Rattle.exact_matrix.specs.Systems.{joined}
 use Rattle.rational.specs.Vectors.{zeros}
 use Rattle.program_law.specs.Region.{Region}
 use Rattle.program_law.specs.Tests.{is_negative}
-use Rattle.program_law.specs.Program.{Program, sides}
+use Rattle.program_law.specs.Program.{Program, IsProgram, sides}
 use Rattle.form_law.specs.Standing.{parts, spread, spread_rows}
-use Rattle.form_law.specs.Form.{padded}
+use Rattle.form_law.specs.Form.{padded, equations, form_of}
 use Rattle.form_law.specs.Equations.{Equation, matrix_row, right_of, row_slacks, bound_slacks}
 use Rattle.equational.specs.declared.rows.Slacks.{Slacks}
-use Rattle.equational.specs.Formed.{begins_negated}
+use Rattle.equational.specs.Formed.{begins_negated, firsts_from}
+use Rattle.equational.specs.declared.kept.First.{First}
 use Rattle.form_law.specs.Calculation.{◌>>=◌, operated, products_in, sums_in, constant_in}
 
 -- a calculation that a stop ends ends with its refusal
@@ -91,3 +92,15 @@ two_sides_in l u k row a =
 abbrev pub quadratic_rows : Laid → List (List ℚ) → List (List ℚ)
 quadratic_rows l pairs =
     map (padded (all_slacks l)) (spread_rows l.region (map (spread l.region) pairs)) ++ replicate (all_slacks l) (zeros (parts l.region + all_slacks l))
+
+-- these parts make the form of a program in a region
+pub record IsMade (p : Program) (region : Region) (l : Laid) (b : Built) (fs : List First) (q c : List ℚ) (c0 : ℚ) : Type 0 where
+  pub program : IsProgram p
+  pub columns : length region ≡ length p.columns
+  pub layout : l ≡ laid p region
+  pub entries : b.entries ≡ joined (form_of p region).matrix
+  pub right : b.right ≡ (form_of p region).right
+  pub quadratic : q ≡ joined (form_of p region).quadratic
+  pub cost : c ≡ (form_of p region).cost
+  pub constant : c0 ≡ (form_of p region).constant
+  pub firsts : fs ≡ firsts_from 0 (sides p) (equations p region)

@@ -12,8 +12,8 @@ ghost use Rattle.equational.specs.Formed.{firsts_from};
 ghost use Rattle.equational.specs.Built.{all_slacks, appended, side_in, taken, two_sides_in, Answers};
 
 use crate::kept::First;
-use crate::lists::push;
 use crate::layout::{Layout, bound_slacks_of, parts_of, slacks_of};
+use crate::lists::push;
 use crate::objective::{dot, number};
 use crate::rows::{Rows, Slacks};
 use check_steps::{is_negative, same};

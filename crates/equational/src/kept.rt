@@ -43,9 +43,9 @@ impl Model for Form {
     ghost Value = { Formed };
 
     ghost view = { λ f. record {
-        form = record { matrix = f.matrix.rows; right = f.right; quadratic = f.quadratic.rows; cost = f.cost; constant = f.constant };
-        region = f.bounds.items;
-        firsts = f.firsts.items;
+      form = record { matrix = f.matrix.rows; right = f.right; quadratic = f.quadratic.rows; cost = f.cost; constant = f.constant };
+      region = f.bounds.items;
+      firsts = f.firsts.items;
     } };
 
     ghost invariant = { λ f. IsKept f.matrix.columns f.quadratic.columns f.bounds.items f.firsts.items (record { matrix = f.matrix.rows; right = f.right; quadratic = f.quadratic.rows; cost = f.cost; constant = f.constant }) };
@@ -129,4 +129,3 @@ impl Form {
         Err(Memory)
     }
 }
-

@@ -57,13 +57,7 @@ pub(crate) fn slacks_of(sides: Row) -> usize
 {
     match sides.low {
         Some(low) => match sides.high {
-            Some(high) => {
-                if same(low, high) {
-                    0
-                } else {
-                    2
-                }
-            }
+            Some(high) => { if same(low, high) { 0 } else { 2 } }
             None => 1,
         },
         None => match sides.high {

@@ -1,6 +1,7 @@
 //! The equational form of a program in a region, and the ways back from it.
 #![tactic(auto)]
 
+mod assembly;
 mod calculation;
 mod equations;
 mod kept;

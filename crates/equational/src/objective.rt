@@ -88,7 +88,8 @@ fn products(alloc: Global, p: &Program, h: &[Frac]) -> Result<Vec<Frac>, Stop>
 // The sum at each place.
 fn sums(alloc: Global, costs: &[Frac], products: &[Frac]) -> Result<Vec<Frac>, Stop>
     requires { length costs.now ≤ length products.now }
-    ensures { Answers (λ cs. cs.items) result (sums_in max_part costs.now products.now) }
+    ensures sums { Answers (λ cs. cs.items) result (sums_in max_part costs.now products.now) }
+    ensures count { IfOk result (λ cs. length cs.items ≡ length costs.now) }
 {
     let mut sums = Vec::new(alloc);
     for j in 0..costs.len() {
@@ -115,7 +116,8 @@ fn constant(p: &Program, h: &[Frac], products: &[Frac]) -> Result<Frac, Stop>
 #[tactic(auto, unfolding(crate::specs::Built::objective_in), using(crate::proofs::Chains::stops_then))]
 pub(crate) fn objective(alloc: Global, p: &Program, h: &[Frac]) -> Result<(Vec<Frac>, Frac), Stop>
     requires { length h.now ≡ length p.now.columns }
-    ensures { Answers (λ o. (o.0.items, o.1)) result (objective_in max_part p.now h.now) }
+    ensures objective { Answers (λ o. (o.0.items, o.1)) result (objective_in max_part p.now h.now) }
+    ensures count { IfOk result (λ o. length o.0.items ≡ length p.now.columns) }
 {
     let products = products(alloc, p, h)?;
     let costs = sums(alloc, p.costs(), &products)?;

@@ -124,7 +124,13 @@ impl Rows {
     }
 
     // Appends the equation of a row of the file.
-    pub(crate) fn push_row(&mut self, layout: &Layout, row: &[Frac], slacks: Slacks, right: Frac) -> Result<(), Memory>
+    pub(crate) fn push_row(
+        &mut self,
+        layout: &Layout,
+        row: &[Frac],
+        slacks: Slacks,
+        right: Frac,
+    ) -> Result<(), Memory>
         requires width { length row.now ≡ length layout.now.region }
         requires within { slacks.before + slacks.own ≤ all_slacks layout.now }
         ensures { OnOk result (self.new ≡ with_equation (all_slacks layout.now) self.old (record { entries = spread layout.now.region row.now; before = slacks.before; own = replicate slacks.own slacks.entry; right = right })) }
@@ -134,7 +140,12 @@ impl Rows {
     }
 
     // Appends the equation of slacks alone.
-    pub(crate) fn push_slacks(&mut self, layout: &Layout, slacks: Slacks, right: Frac) -> Result<(), Memory>
+    pub(crate) fn push_slacks(
+        &mut self,
+        layout: &Layout,
+        slacks: Slacks,
+        right: Frac,
+    ) -> Result<(), Memory>
         requires within { slacks.before + slacks.own ≤ all_slacks layout.now }
         ensures { OnOk result (self.new ≡ with_equation (all_slacks layout.now) self.old (record { entries = zeros (parts layout.now.region); before = slacks.before; own = replicate slacks.own slacks.entry; right = right })) }
     {
@@ -143,13 +154,20 @@ impl Rows {
     }
 
     // Appends the equation of the form's column at `at`.
-    pub(crate) fn push_column(&mut self, layout: &Layout, at: usize, slacks: Slacks, right: Frac) -> Result<(), Memory>
+    pub(crate) fn push_column(
+        &mut self,
+        layout: &Layout,
+        at: usize,
+        slacks: Slacks,
+        right: Frac,
+    ) -> Result<(), Memory>
         requires place { at < parts layout.now.region }
         requires within { slacks.before + slacks.own ≤ all_slacks layout.now }
         ensures { OnOk result (self.new ≡ with_equation (all_slacks layout.now) self.old (record { entries = zeros at ++ one_ℚ ∷ zeros (parts layout.now.region - (at + 1)); before = slacks.before; own = replicate slacks.own slacks.entry; right = right })) }
     {
         push_zeros(&mut self.entries, at)?;
-        self.entries.push(signed(is_negative(right), Frac::whole(1)))?;
+        self.entries
+            .push(signed(is_negative(right), Frac::whole(1)))?;
         push_zeros(&mut self.entries, layout.parts() - (at + 1))?;
         self.end(layout.slacks(), slacks, right)
     }

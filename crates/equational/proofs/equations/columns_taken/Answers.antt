@@ -34,13 +34,14 @@ loop-j-preserved c =
     let second = same_place _ c.loop-j.j c.index-bounds-j-in-loop-j.result b c.loop-j-test.true c.index-bounds-j-in-loop-j.is c.index-bounds-j.is in
     let third = same_place _ c.loop-j.j c.index-bounds-j-in-loop-j-2.result b c.loop-j-test.true c.index-bounds-j-in-loop-j-2.is c.index-bounds-j.is in
     let columns : c.parts_of-at.result ≡ parts_at (standing b) = c.parts_of-at.ensures.parts ∙ ap (λ (b : Row). parts_at (standing b)) second in
-    let slacks : c.bound_slacks_of-before.result ≡ bound_slacks_by b.low b.high = c.bound_slacks_of-before.ensures.slacks ∙ ap (λ (b : Row). bound_slacks_by b.low b.high) third in
-    (column_on (all_slacks c.args.layout.now) c.loop-j.rows c.column_taken.new.rows region c.loop-j.before c.loop-j.j c.loop-j.at c.bound_slacks_of-before.result b _ within here c.loop-j.invariant.1 slacks
-    c.in_ok-column_taken.ensures c.loop-j.invariant.0,
-    omega (arith, parts_next region c.loop-j.j b within here, columns, c.loop-j.invariant.1),
-    omega (arith, bound_slacks_next region c.loop-j.j b within here, slacks, c.loop-j.invariant.2),
-    omega (arith, c.parts_of-at.ensures.few, c.loop-j.invariant.3),
-    omega (arith, c.bound_slacks_of-before.ensures.few, c.loop-j.invariant.4))
+    let slacks : c.bound_slacks_of-before.result ≡ bound_slacks_by b.low b.high = c.bound_slacks_of-before.ensures.slacks ∙ ap (λ (b : Row). bound_slacks_by b.low b.high) third in (
+      column_on (all_slacks c.args.layout.now) c.loop-j.rows c.column_taken.new.rows region c.loop-j.before c.loop-j.j c.loop-j.at c.bound_slacks_of-before.result b _ within here c.loop-j.invariant.1 slacks
+          c.in_ok-column_taken.ensures c.loop-j.invariant.0,
+      omega (arith, parts_next region c.loop-j.j b within here, columns, c.loop-j.invariant.1),
+      omega (arith, bound_slacks_next region c.loop-j.j b within here, slacks, c.loop-j.invariant.2),
+      omega (arith, c.parts_of-at.ensures.few, c.loop-j.invariant.3),
+      omega (arith, c.bound_slacks_of-before.ensures.few, c.loop-j.invariant.4),
+    )
 
 pub returns : goal.returns
 returns c =

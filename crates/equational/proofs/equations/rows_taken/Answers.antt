@@ -45,13 +45,15 @@ loop-i-preserved c =
     let here = row_found p c.loop-i.i c.row.result within c.row.ensures.row in
     let there = entries_found p c.rows-i-end.ensures.program c.loop-i.i c.entries_of-row.result.now within c.entries_of-row.ensures.entries in
     let count : c.slacks_of-before.result ≡ slacks_at c.row.result = c.slacks_of-before.ensures.slacks ∙ ap slacks_at (same_found (sides p) c.loop-i.i c.row-in-loop-i.result c.row.result c.row-in-loop-i.ensures.row c.row.ensures.row) in
-    let next = row_slacks_next (sides p) c.loop-i.i c.row.result (omega (arith, length-map p.rows (λ r. r.1), within)) c.row.ensures.row in
-    (row_on (all_slacks c.args.layout.now) c.loop-i.rows c.push_row_equations.new.rows c.args.layout.now.region c.args.h.now c.loop-i.before c.loop-i.i c.slacks_of-before.result (sides p) p.entries c.row.result
-    c.entries_of-row.result.now c.in_ok-product.product c.in_ok-negated.negated _ here there count c.in_ok-product.ensures c.in_ok-negated.ensures c.loop-i.invariant.0,
-    λ more. first_on (all_slacks c.args.layout.now) c.loop-i.rows c.push_row_equations.new.rows c.args.layout.now.region c.args.h.now c.loop-i.before c.loop-i.i c.slacks_of-before.result c.len-equation.result (sides p)
-    p.entries c.row.result c.entries_of-row.result.now c.in_ok-product.product c.in_ok-negated.negated c.loop-i.firsts.items c.push.new.items.items more _ here there c.row.ensures.good.some count c.in_ok-product.ensures
-    c.in_ok-negated.ensures c.len-equation.ensures c.in_ok-push.ensures (c.loop-i.invariant.1 more),
-    omega (arith, next, count, c.loop-i.invariant.2), omega (arith, c.slacks_of-before.ensures.few, c.loop-i.invariant.3))
+    let next = row_slacks_next (sides p) c.loop-i.i c.row.result (omega (arith, length-map p.rows (λ r. r.1), within)) c.row.ensures.row in (
+      row_on (all_slacks c.args.layout.now) c.loop-i.rows c.push_row_equations.new.rows c.args.layout.now.region c.args.h.now c.loop-i.before c.loop-i.i c.slacks_of-before.result (sides p) p.entries c.row.result
+          c.entries_of-row.result.now c.in_ok-product.product c.in_ok-negated.negated _ here there count c.in_ok-product.ensures c.in_ok-negated.ensures c.loop-i.invariant.0,
+      λ more. first_on (all_slacks c.args.layout.now) c.loop-i.rows c.push_row_equations.new.rows c.args.layout.now.region c.args.h.now c.loop-i.before c.loop-i.i c.slacks_of-before.result c.len-equation.result (sides p)
+          p.entries c.row.result c.entries_of-row.result.now c.in_ok-product.product c.in_ok-negated.negated c.loop-i.firsts.items c.push.new.items.items more _ here there c.row.ensures.good.some count c.in_ok-product.ensures
+          c.in_ok-negated.ensures c.len-equation.ensures c.in_ok-push.ensures (c.loop-i.invariant.1 more),
+      omega (arith, next, count, c.loop-i.invariant.2),
+      omega (arith, c.slacks_of-before.ensures.few, c.loop-i.invariant.3),
+    )
 
 pub returns-clause-equations : goal.returns-clause-equations
 returns-clause-equations c =

@@ -15,11 +15,12 @@ returns-in_err-dot-clause-products c =
     c.in_err-dot.ensures c.loop-j.invariant.0)
 
 pub loop-j-preserved : goal.loop-j-preserved
-loop-j-preserved c =
-    (list_on _ c.in_ok-dot.field-0 _ _ _ c.loop-j.products.items c.push.new.items.items
-    (products_next max_part c.args.p.now.pairs c.args.h.now c.loop-j.j c.pairs_of.result.now (omega (arith, c.columns-j-end.ensures.program.pairs_height, c.columns-j-end.ensures.count, c.loop-j-test.true)) c.pairs_of.ensures.pairs)
-    c.in_ok-dot.ensures c.in_ok-push.ensures c.loop-j.invariant.0,
-    ap length c.in_ok-push.ensures ∙ length_push c.loop-j.products.items c.in_ok-dot.field-0 ∙ ap (λ n. n + 1) c.loop-j.invariant.1)
+loop-j-preserved c = (
+  list_on _ c.in_ok-dot.field-0 _ _ _ c.loop-j.products.items c.push.new.items.items
+      (products_next max_part c.args.p.now.pairs c.args.h.now c.loop-j.j c.pairs_of.result.now (omega (arith, c.columns-j-end.ensures.program.pairs_height, c.columns-j-end.ensures.count, c.loop-j-test.true)) c.pairs_of.ensures.pairs)
+      c.in_ok-dot.ensures c.in_ok-push.ensures c.loop-j.invariant.0,
+  ap length c.in_ok-push.ensures ∙ length_push c.loop-j.products.items c.in_ok-dot.field-0 ∙ ap (λ n. n + 1) c.loop-j.invariant.1,
+)
 
 pub returns-clause-products : goal.returns-clause-products
 returns-clause-products c =
