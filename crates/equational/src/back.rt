@@ -11,6 +11,7 @@ ghost use Rattle.std.specs.List.{All};
 ghost use Rattle.std.specs.Prelude.{◌≡◌, ◌<◌, ◌≤◌, ◌+◌, drop, length, map, IfOk};
 
 use crate::kept::First;
+use crate::layout::parts_of;
 use exact_matrix::Stop;
 use frac_core::{Frac, Memory, Refused, Vector, added, subtracted};
 use program_law::Row;
@@ -21,16 +22,6 @@ use std::alloc::Global;
 pub(crate) enum Carried {
     Point,
     Direction,
-}
-
-// How many of the form's columns stand for a column of the file.
-fn parts_at(bounds: &Row) -> usize
-    ensures { result ≡ parts_at (standing bounds.now) }
-{
-    match (bounds.low, bounds.high) {
-        (None, None) => 2,
-        _ => 1,
-    }
 }
 
 // `z - z'`, for the two columns of the form from `place` on.
@@ -94,7 +85,7 @@ pub(crate) fn columns_back(
         let bounds = &region[j];
         let entry = column(carried, bounds, z, place)?;
         columns.set(j, entry);
-        place += parts_at(bounds);
+        place += parts_of(*bounds);
     }
     Ok(columns)
 }

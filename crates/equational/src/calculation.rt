@@ -6,10 +6,33 @@ ghost use Rattle.frac_core.specs.Parts.{max_part};
 ghost use Rattle.form_law.specs.Calculation.{form_in, form_ops};
 ghost use Rattle.equational.specs.Formed.{formed, IsAnswerOf, IsFormAnswer};
 
+use crate::assembly::assembled;
+use crate::equations::{columns_taken, rows_taken};
 use crate::kept::Form;
+use crate::layout::Layout;
+use crate::objective::{objective, shift};
+use crate::quadratic::{cost, quadratic};
+use crate::rows::Rows;
 use exact_matrix::Stop;
 use program_model::{Program, Region};
 use std::alloc::Global;
+
+fn calculated(alloc: Global, p: &Program, region: &Region) -> Result<Form, Stop>
+    requires { length region.now ≡ length p.now.columns }
+    ensures calculation { IsFormAnswer (form_in max_part p.now region.now) result }
+    ensures exact { IfOk result (λ f. f ≡ formed p.now region.now) }
+{
+    let _columns = p.columns();
+    let layout = Layout::of(alloc, p, region)?;
+    let h = shift(alloc, layout.bounds())?;
+    let (costs, constant) = objective(alloc, p, &h)?;
+    let mut rows = Rows::new(alloc)?;
+    let firsts = rows_taken(alloc, &mut rows, &layout, p, &h)?;
+    columns_taken(&mut rows, &layout)?;
+    let quadratic = quadratic(alloc, &layout, p)?;
+    let cost = cost(alloc, &layout, &costs)?;
+    Ok(assembled(layout, rows, firsts, quadratic, cost, constant))
+}
 
 /// The equational form of a program in a region that isn't crossed.
 ///
@@ -26,5 +49,6 @@ pub fn form(alloc: Global, p: &Program, region: &Region) -> Result<Form, Stop>
     ensures operations { IsAnswerOf (form_ops p.now region.now) result }
     ensures exact { IfOk result (λ f. f ≡ formed p.now region.now) }
 {
-    Err(Stop::Memory)
+    let _columns = p.columns();
+    calculated(alloc, p, region)
 }

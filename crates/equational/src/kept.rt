@@ -28,13 +28,13 @@ pub(crate) struct First {
 /// columns and equations came from the program and the region.
 #[derive(Drop)]
 pub struct Form {
-    matrix: Matrix<Frac>,
-    right: Vector<Frac>,
-    quadratic: Matrix<Frac>,
-    cost: Vector<Frac>,
-    constant: Frac,
-    bounds: Vec<Row>,
-    firsts: Vec<First>,
+    pub(crate) matrix: Matrix<Frac>,
+    pub(crate) right: Vector<Frac>,
+    pub(crate) quadratic: Matrix<Frac>,
+    pub(crate) cost: Vector<Frac>,
+    pub(crate) constant: Frac,
+    pub(crate) bounds: Vec<Row>,
+    pub(crate) firsts: Vec<First>,
 }
 
 impl Model for Form {

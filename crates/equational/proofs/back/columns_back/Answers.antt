@@ -13,10 +13,10 @@ returns-in_err-entry c =
 pub loop-j-preserved : goal.loop-j-preserved
 loop-j-preserved c = record {
   whole =
-      rw (c.set.ensures, c.parts_at-place.ensures) (column_more c.args.carried c.args.region.now c.args.z.now c.loop-j.columns c.loop-j.j c.loop-j.place _ _
+      rw (c.set.ensures, c.parts_of-place.ensures.parts) (column_more c.args.carried c.args.region.now c.args.z.now c.loop-j.columns c.loop-j.j c.loop-j.place _ _
       c.loop-j.invariant.size (omega arith) c.index-region-j.is (sym c.in_ok-entry.ensures) ∙ c.loop-j.invariant.whole);
   size = rw c.set.ensures (simp length-set c.loop-j.invariant.size);
-  room = rw c.parts_at-place.ensures (room_left c.args.region.now _ c.loop-j.j c.loop-j.place _ (omega arith) c.index-region-j.is c.loop-j.invariant.room);
+  room = rw c.parts_of-place.ensures.parts (room_left c.args.region.now _ c.loop-j.j c.loop-j.place _ (omega arith) c.index-region-j.is c.loop-j.invariant.room);
 }
 
 pub returns : goal.returns
