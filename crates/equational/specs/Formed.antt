@@ -1,7 +1,6 @@
 -- A form as it is kept: its parts, and how its columns and equations came from a program and a region.
-use Rattle.std.specs.Prelude.{◌≡◌, ℕ, ◌+◌, ◌<◌, ◌≤◌, List, [], ◌∷◌, length, drop, Bool, true, false, Option, Some, None, Result, Ok, Err}
+use Rattle.std.specs.Prelude.{◌≡◌, ℕ, ◌+◌, ◌<◌, ◌≤◌, List, [], ◌∷◌, length, drop, Bool, false, Result, Ok, Err}
 use Rattle.std.specs.List.{All}
-use Rattle.rational.specs.Rational.{ℚ}
 use Rattle.frac_core.specs.Parts.{max_part}
 use Rattle.frac_core.specs.Operations.{IsWithin, IsFirstPast}
 use Rattle.frac_core.specs.declared.fractions.Refused.{Refused}
