@@ -1,9 +1,8 @@
 -- The equations of the columns, one after another.
-use Rattle.std.specs.Prelude.{◌≡◌, ◌<◌, ◌≤◌, ℕ, zero, suc, ◌+◌, ◌-◌, List, [], ◌∷◌, ◌++◌, take, drop, length, get_or, Option, Some, None, Result, Ok, Err}
-use Rattle.std.proofs.Common.{refl, sym, ap, ◌∙◌, arith, append_assoc, add-one}
+use Rattle.std.specs.Prelude.{◌≡◌, ◌<◌, ◌≤◌, ℕ, zero, suc, ◌+◌, ◌-◌, List, [], ◌∷◌, ◌++◌, drop, length, get_or, Option, Some, None, Result, Ok}
+use Rattle.std.proofs.Common.{refl, sym, ap, ◌∙◌, arith, add-one}
 use Rattle.std.proofs.lemmas.List.{drop_all}
-use Rattle.rational.specs.Rational.{ℚ, zero_ℚ, one_ℚ, neg_ℚ}
-use Rattle.rational.specs.Sums.{entry}
+use Rattle.rational.specs.Rational.{ℚ, zero_ℚ, one_ℚ}
 use Rattle.rational.specs.Vectors.{zeros, unit_vector}
 use Rattle.frac_core.specs.Parts.{max_part}
 use Rattle.frac_core.specs.declared.fractions.Op.TheVariants.{Sub}
@@ -12,10 +11,10 @@ use Rattle.exact_matrix.specs.declared.systems.Stop.{Stop}
 use Rattle.program_law.specs.declared.Row.{Row}
 use Rattle.program_law.specs.Region.{Region}
 use Rattle.form_law.specs.Standing.{Standing, Above, Below, Free, standing, parts_at, parts, spread_at, spread}
-use Rattle.form_law.specs.Equations.{Equation, bound_slacks_by, bound_slacks}
+use Rattle.form_law.specs.Equations.{Equation, bound_slacks_by}
 use Rattle.form_law.specs.Calculation.{◌>>=◌, operated, bound_equation_in, bound_equations_in}
 use Rattle.equational.specs.Built.{Built, Stops, with_equation, with_equations, appended}
-use Rattle.equational.proofs.Chains.{stops_then, stops_as}
+use Rattle.equational.proofs.Chains.{stops_then}
 use Rattle.equational.proofs.Appended.{no_equations, one_equation, neg-zero}
 use Rattle.equational.proofs.Gathered.{equation, more_on, more_stops, all_appended}
 use Rattle.equational.proofs.Places.{at_place}

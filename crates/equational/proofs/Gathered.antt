@@ -1,14 +1,13 @@
 -- The equations that a calculation appends, row by row and column by column.
-use Rattle.std.specs.Prelude.{◌≡◌, ◌<◌, ◌≤◌, ◌⊎◌, ℕ, zero, suc, ◌+◌, ◌-◌, List, [], ◌∷◌, ◌++◌, map, take, drop, length, replicate, get_or, slice_get, Bool, true, false, Option, Some, None, IsSome, Result, Ok, Err, if◌then◌else◌}
-use Rattle.std.proofs.Common.{refl, inl, inr, sym, subst, ap, ◌∙◌, arith, append_assoc, append-nil, cond}
+use Rattle.std.specs.Prelude.{◌≡◌, ◌≤◌, ◌⊎◌, ℕ, ◌+◌, List, [], ◌∷◌, ◌++◌, map, drop, length, replicate, Bool, true, false, Option, Some, None, IsSome, Result, Ok, Err}
+use Rattle.std.proofs.Common.{refl, inl, inr, sym, ap, ◌∙◌, append_assoc, cond}
 use Rattle.std.proofs.lemmas.List.{drop_all, length-append, length-map}
 use Rattle.rational.specs.Rational.{ℚ, one_ℚ, neg_ℚ, ◌-ℚ◌}
 use Rattle.rational.specs.Order.{same_fields}
-use Rattle.rational.specs.Vectors.{dot, zeros, unit_vector}
+use Rattle.rational.specs.Vectors.{dot, zeros}
 use Rattle.frac_core.specs.Parts.{max_part}
 use Rattle.frac_core.specs.Calculated.{tried_in}
 use Rattle.frac_core.specs.Dot.{dot_of}
-use Rattle.frac_core.specs.declared.fractions.Op.{Op}
 use Rattle.frac_core.specs.declared.fractions.Op.TheVariants.{Sub}
 use Rattle.frac_core.specs.declared.fractions.Refused.{Refused}
 use Rattle.frac_core.specs.declared.fractions.Tried.{Tried}
@@ -18,9 +17,9 @@ use Rattle.exact_matrix.specs.declared.systems.Stop.{Stop}
 use Rattle.exact_matrix.specs.declared.systems.Stop.TheVariants.{Memory, Past}
 use Rattle.program_law.specs.declared.Row.{Row}
 use Rattle.program_law.specs.Region.{Region}
-use Rattle.form_law.specs.Standing.{Standing, Above, Below, Free, standing, parts_at, parts, spread_at, spread}
-use Rattle.form_law.specs.Equations.{Equation, count_by, row_equations_by, slacks_at, row_equations, row_slacks, bound_slacks_by, bound_slacks, is_negated, right_of}
-use Rattle.form_law.specs.Calculation.{◌>>=◌, number, operated, row_equations_by_in, row_equations_in, bound_equation_in, bound_equations_in}
+use Rattle.form_law.specs.Standing.{spread}
+use Rattle.form_law.specs.Equations.{Equation, row_equations_by, slacks_at, row_equations, is_negated, right_of}
+use Rattle.form_law.specs.Calculation.{◌>>=◌, number, operated, row_equations_by_in, row_equations_in}
 use Rattle.equational.specs.Formed.{begins_negated, firsts_from}
 use Rattle.equational.specs.declared.kept.First.{First}
 use Rattle.equational.specs.declared.rows.Slacks.{Slacks}

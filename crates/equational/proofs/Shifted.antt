@@ -1,11 +1,10 @@
 -- The objective's calculation, place by place.
-use Rattle.std.specs.Prelude.{◌≡◌, ◌<◌, ◌≤◌, ℕ, ◌+◌, List, [], ◌∷◌, ◌++◌, drop, get_or, length, Result, Ok, Err}
+use Rattle.std.specs.Prelude.{◌≡◌, ◌<◌, ◌≤◌, ℕ, ◌+◌, List, [], ◌∷◌, drop, get_or, length, Result, Ok}
 use Rattle.std.proofs.Common.{refl, sym, ap, ◌∙◌, arith}
 use Rattle.std.proofs.lemmas.List.{drop_more, drop_all}
 use Rattle.rational.specs.Rational.{ℚ}
 use Rattle.frac_core.specs.declared.fractions.Op.TheVariants.{Add}
 use Rattle.frac_core.specs.declared.fractions.Refused.{Refused}
-use Rattle.frac_core.specs.Calculated.{and_then}
 use Rattle.frac_core.specs.Dot.{dot_step, dot_from, dot_of}
 use Rattle.form_law.specs.Calculation.{◌>>=◌, number, operated, products_in, sums_in}
 use Rattle.equational.proofs.Chains.{number_then}

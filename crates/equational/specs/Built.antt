@@ -1,5 +1,5 @@
 -- Equations as they are appended, row after row, and what a call leaves of a calculation.
-use Rattle.std.specs.Prelude.{◌≡◌, ℕ, ◌+◌, ◌-◌, ◌++◌, ◌∷◌, [], List, length, map, replicate, Bool, true, false, Result, Ok, Err, if◌then◌else◌}
+use Rattle.std.specs.Prelude.{◌≡◌, ℕ, ◌+◌, ◌-◌, ◌++◌, ◌∷◌, [], List, length, map, replicate, Bool, Result, Ok, Err, if◌then◌else◌}
 use Rattle.rational.specs.Rational.{ℚ, neg_ℚ, one_ℚ}
 use Rattle.frac_core.specs.declared.fractions.Refused.{Refused}
 use Rattle.frac_core.specs.declared.fractions.Op.TheVariants.{Sub}

@@ -2,7 +2,6 @@ use Rattle.std.proofs.Common.{◌≡◌, List, Ok, ap, sym, ◌∙◌, length}
 use Rattle.std.proofs.lemmas.Result.{err_from_is_err_and}
 use Rattle.rational.specs.Rational.{ℚ}
 use Rattle.frac_core.specs.Parts.{max_part}
-use Rattle.program_law.specs.Region.{Region}
 use Rattle.form_law.specs.Standing.{shift, spread}
 use Rattle.form_law.specs.Form.{padded, form_of}
 use Rattle.form_law.specs.Calculation.{form_in}

@@ -1,4 +1,4 @@
-use Rattle.std.proofs.Common.{◌<◌, length, arith, ap}
+use Rattle.std.proofs.Common.{◌<◌, length, arith}
 use Rattle.equational.specs.Built.{all_slacks}
 use Rattle.equational.proofs.Pairs.{pairs_more, pairs_end}
 use Rattle.equational.proofs.Places.{place_in}

@@ -1,4 +1,4 @@
-use Rattle.std.proofs.Common.{ap, ◌∙◌, ◌++◌, List, Bool}
+use Rattle.std.proofs.Common.{ap, ◌∙◌, ◌++◌, Bool}
 use Rattle.std.proofs.lemmas.Result.{on_ok_weaker}
 use Rattle.program_law.specs.Region.{Region}
 use Rattle.form_law.specs.Standing.{spread}
