@@ -36,7 +36,7 @@ fn set_entry(p: &mut Program, i: u32, value: Frac) {
 }
 
 // The program of one column, with these entries in rows of these sides.
-fn program(alloc: Global, bounds: Row, rows: &[(i64, Row)]) -> Result<Program, Fail> {
+fn program(alloc: Global, bounds: Row, rows: &[(i128, Row)]) -> Result<Program, Fail> {
     let mut p = start(alloc)?;
     let Row { low, high } = bounds;
     let column = Column {
@@ -53,21 +53,21 @@ fn program(alloc: Global, bounds: Row, rows: &[(i64, Row)]) -> Result<Program, F
     Ok(p)
 }
 
-fn at_least(low: i64) -> Row {
+fn at_least(low: i128) -> Row {
     Row {
         low: Some(Frac::whole(low)),
         high: None,
     }
 }
 
-fn at_most(high: i64) -> Row {
+fn at_most(high: i128) -> Row {
     Row {
         low: None,
         high: Some(Frac::whole(high)),
     }
 }
 
-fn just(side: i64) -> Row {
+fn just(side: i128) -> Row {
     Row {
         low: Some(Frac::whole(side)),
         high: Some(Frac::whole(side)),
