@@ -36,7 +36,7 @@ fn set_entry(p: &mut Program, i: u32, value: Frac) {
 }
 
 // The program of one column, with these entries in rows of these sides.
-fn program(alloc: Global, bounds: Row, rows: &[(i128, Row)]) -> Result<Program, Fail> {
+fn program(alloc: Global, bounds: Row, rows: &[(i64, Row)]) -> Result<Program, Fail> {
     let mut p = start(alloc)?;
     let Row { low, high } = bounds;
     let column = Column {
@@ -48,29 +48,29 @@ fn program(alloc: Global, bounds: Row, rows: &[(i128, Row)]) -> Result<Program, 
     for (entry, sides) in rows {
         let i = p.rows();
         add_row(&mut p, alloc, b'a'.wrapping_add(i as u8), *sides)?;
-        set_entry(&mut p, i, Frac::whole(*entry));
+        set_entry(&mut p, i, Frac::whole(*entry as i128));
     }
     Ok(p)
 }
 
-fn at_least(low: i128) -> Row {
+fn at_least(low: i64) -> Row {
     Row {
-        low: Some(Frac::whole(low)),
+        low: Some(Frac::whole(low as i128)),
         high: None,
     }
 }
 
-fn at_most(high: i128) -> Row {
+fn at_most(high: i64) -> Row {
     Row {
         low: None,
-        high: Some(Frac::whole(high)),
+        high: Some(Frac::whole(high as i128)),
     }
 }
 
-fn just(side: i128) -> Row {
+fn just(side: i64) -> Row {
     Row {
-        low: Some(Frac::whole(side)),
-        high: Some(Frac::whole(side)),
+        low: Some(Frac::whole(side as i128)),
+        high: Some(Frac::whole(side as i128)),
     }
 }
 
