@@ -1,9 +1,14 @@
 use super::*;
-use frac_core::Frac;
-use program_model::Program;
+use frac_core::{Frac, Memory, Tried, Vector};
+use program_model::{PointTest, Program, Region, check_point, value};
+use std::alloc::Global;
+use std::test::Fail;
+
+/// The most bytes of a text that is tried.
+const LONGEST: usize = 2_000_000;
 
 fn program_of(rt: &HostRuntime, text: &str) -> Option<Program> {
-    if text.len() > 1000 {
+    if text.len() > LONGEST {
         return None;
     }
     match read(rt.alloc(), text.as_bytes()) {
@@ -13,7 +18,7 @@ fn program_of(rt: &HostRuntime, text: &str) -> Option<Program> {
 }
 
 fn has_fault(rt: &HostRuntime, text: &str, at: u32, fault: FaultKind) -> bool {
-    if text.len() > 1000 {
+    if text.len() > LONGEST {
         return false;
     }
     match read(rt.alloc(), text.as_bytes()) {
@@ -145,4 +150,127 @@ fn bounds(rt: HostRuntime) {
         None => false,
     };
     assert!(rt; holds);
+}
+
+// A comment of 64 bytes with its line feed, so often.
+fn comments(rt: &HostRuntime, count: u32) -> Result<String, Fail> {
+    let mut text = String::new(rt.alloc());
+    for _ in 0..count {
+        text.push_str("* ............................................................ \n")?;
+    }
+    Ok(text)
+}
+
+// So many lines behind a text, each with a number.
+fn numbered(
+    rt: &HostRuntime,
+    front: &str,
+    before: &str,
+    behind: &str,
+    count: u32,
+) -> Result<String, Fail> {
+    let mut text = String::from_str(rt.alloc(), front)?;
+    for k in 0..count {
+        let line = format!(in rt.alloc(); "{before}{k}{behind}")?;
+        text.push_str(line.as_str())?;
+    }
+    Ok(text)
+}
+
+#[test]
+fn long_texts(rt: HostRuntime) -> Result<(), Fail> {
+    let mut text = comments(&rt, 16_384)?;
+    assert!(rt; text.len() == 1_048_576);
+    assert!(rt; has_fault(&rt, text.as_str(), 16_385, FaultKind::NoEnd));
+    text.push_str("*")?;
+    assert!(rt; has_fault(&rt, text.as_str(), 16_385, FaultKind::TextLong));
+    Ok(())
+}
+
+#[test]
+fn many_rows_and_columns(rt: HostRuntime) -> Result<(), Fail> {
+    for (count, kind) in [(128, FaultKind::NoEnd), (129, FaultKind::TooMany)] {
+        let rows = numbered(&rt, "ROWS\n N obj\n", " L r", "\n", count)?;
+        assert!(rt; has_fault(&rt, rows.as_str(), 131, kind));
+        let columns = numbered(&rt, "ROWS\n N obj\nCOLUMNS\n", " x", " obj 1\n", count)?;
+        assert!(rt; has_fault(&rt, columns.as_str(), 132, kind));
+    }
+    Ok(())
+}
+
+// Minimise x^2 + 4y^2 - 32y + 64 where x + y <= 7, -x + 2y <= 4, x >= 0 and 0 <= y <= 4.
+const FIRST: &str =
+    "NAME first\nROWS\n N obj\n L c1\n L c2\nCOLUMNS\n x c1 1 c2 -1\n y obj -32 c1 1\n y c2 2\nRHS\n RHS obj -64\n RHS c1 7 c2 4\nBOUNDS\n UP BND y 4\nQUADOBJ\n x x 2\n y y 8\nENDATA\n";
+
+fn point(alloc: Global, first: u8, second: u8) -> Result<Vector<Frac>, Memory> {
+    let mut x = Vector::filled(alloc, 1, Frac::whole(i128::from(first)))?;
+    x.push(Frac::whole(i128::from(second)))?;
+    Ok(x)
+}
+
+// The place of the row that a point breaks, or 100 more than that of the bound or the mark, counted from 1; 0 for none.
+fn broken(p: &Program, region: &Region, x: &Vector<Frac>) -> Option<u32> {
+    let columns = p.columns() as usize;
+    if region.len() != columns || x.len() != columns {
+        return None;
+    }
+    match check_point(p, region, x) {
+        Ok(PointTest::Inside) => Some(0),
+        Ok(PointTest::Row(i)) => i.checked_add(1),
+        Ok(PointTest::Bound(j)) | Ok(PointTest::Mark(j)) => j.checked_add(101),
+        Err(_) => None,
+    }
+}
+
+fn value_is(p: &Program, x: &Vector<Frac>, wanted: i128) -> bool {
+    if x.len() != p.columns() as usize {
+        return false;
+    }
+    match value(p, x) {
+        Tried::Is(value) => is_whole(value, wanted),
+        Tried::Past(_) => false,
+    }
+}
+
+#[test]
+fn points(rt: HostRuntime) -> Result<(), Fail> {
+    let Some(p) = program_of(&rt, FIRST) else {
+        return Err(Fail::new("not read"));
+    };
+    let region = Region::of(rt.alloc(), &p)?;
+    for (a, b, place) in [(2, 3, 0), (9, 1, 1), (2, 4, 2), (2, 5, 2), (1, 2, 0)] {
+        let x = point(rt.alloc(), a, b)?;
+        assert!(rt; broken(&p, &region, &x) == Some(place));
+    }
+    let best = point(rt.alloc(), 2, 3)?;
+    assert!(rt; value_is(&p, &best, 8));
+    Ok(())
+}
+
+fn cut(region: &mut Region, j: u32, low: u8, high: u8) {
+    if (j as usize) < region.len() {
+        region.cut_low(j, Frac::whole(i128::from(low)));
+    }
+    if (j as usize) < region.len() {
+        region.cut_high(j, Frac::whole(i128::from(high)));
+    }
+}
+
+fn bounds_are(region: &Region, j: u32, low: i128, high: i128) -> bool {
+    (j as usize) < region.len() && is_at(region.low(j), low) && is_at(region.high(j), high)
+}
+
+#[test]
+fn regions(rt: HostRuntime) -> Result<(), Fail> {
+    let Some(p) = program_of(&rt, FIRST) else {
+        return Err(Fail::new("not read"));
+    };
+    let mut region = Region::of(rt.alloc(), &p)?;
+    cut(&mut region, 1, 1, 2);
+    assert!(rt; bounds_are(&region, 1, 1, 2) && region.crossed().is_none());
+    let x = point(rt.alloc(), 2, 3)?;
+    assert!(rt; broken(&p, &region, &x) == Some(102));
+    cut(&mut region, 1, 3, 9);
+    assert!(rt; bounds_are(&region, 1, 3, 2) && region.crossed() == Some(1));
+    Ok(())
 }
