@@ -39,117 +39,11 @@ fn is_at(side: Option<Frac>, n: i128) -> bool {
     }
 }
 
-// Whether this is x^2 + xy + y^2 + x with 3 <= x + y <= 5, x at least 0 and y at most -1.
-fn is_form(p: &Program) -> bool {
-    if p.rows() != 1 || p.columns() != 2 {
-        return false;
-    }
-    let row = p.row(0);
-    let (x, y) = (p.column(0), p.column(1));
-    is_at(row.low, 3)
-        && is_at(row.high, 5)
-        && is_at(x.low, 0)
-        && x.high.is_none()
-        && y.low.is_none()
-        && is_at(y.high, -1)
-}
-
-// Whether its numbers are right as well.
-fn has_numbers(p: &Program) -> bool {
-    if p.rows() != 1 || p.columns() != 2 {
-        return false;
-    }
-    is_whole(p.cost(0), 1)
-        && is_whole(p.cost(1), 0)
-        && is_whole(p.entry(0, 0), 1)
-        && is_whole(p.entry(0, 1), 1)
-        && is_whole(p.pair(0, 0), 2)
-        && is_whole(p.pair(0, 1), 1)
-        && is_whole(p.pair(1, 0), 1)
-        && is_whole(p.pair(1, 1), 2)
-}
-
-fn reads_form(rt: &HostRuntime, text: &str) -> bool {
-    match program_of(rt, text) {
-        Some(p) => is_form(&p) && has_numbers(&p),
-        None => false,
-    }
-}
-
-#[test]
-fn three_files_of_one_program(rt: HostRuntime) {
-    for text in [
-        "ROWS\n N obj\n E e1\nCOLUMNS\n x obj 1 e1 1\n y e1 1\nRHS\n S e1 5\nRANGES\n S e1 -2\nBOUNDS\n UP S y -1\nQUADOBJ\n x x 2\n y x 1\n y y 2\nENDATA\n",
-        "ROWS\n N obj\n E e1\nCOLUMNS\n x obj 1 e1 1\n y e1 1\nRHS\n S e1 5\nRANGES\n S e1 -2\nBOUNDS\n UP S y -1\nQMATRIX\n x x 2\n x y 1\n y x 1\n y y 2\nENDATA\n",
-        "ROWS\n N obj\n E e1\nCOLUMNS\n x obj 1 e1 1\n y e1 1\nRHS\n S e1 5\nRANGES\n S e1 -2\nBOUNDS\n UP S y -1\nDMATRIX\n x x 1\n x y 1/2\n y x .5\n y y 1.0\nENDATA\n",
-    ] {
-        assert!(rt; reads_form(&rt, text));
-    }
-}
-
 #[test]
 fn end_faults(rt: HostRuntime) {
     let range =
         "ROWS\n N obj\n L c\nCOLUMNS\n x c 1\nRHS\n R c -170141183460469231731687303715884105727/1\nRANGES\n R c 1\nENDATA\n";
     assert!(rt; has_fault(&rt, range, 9, FaultKind::RangePast));
-    let pair = "ROWS\n N obj\nCOLUMNS\n x obj 1\n y obj 1\nQMATRIX\n x y 1\nENDATA\n";
-    assert!(rt; has_fault(&rt, pair, 7, FaultKind::NotSymmetric));
-}
-
-// Whether the one row has these sides.
-fn has_sides(rt: &HostRuntime, text: &str, low: i128, high: i128) -> bool {
-    match program_of(rt, text) {
-        Some(p) => {
-            if p.rows() != 1 {
-                return false;
-            }
-            let row = p.row(0);
-            is_at(row.low, low) && is_at(row.high, high)
-        }
-        None => false,
-    }
-}
-
-#[test]
-fn ranges_of_equations(rt: HostRuntime) {
-    let down = "ROWS\n N obj\n E e\nCOLUMNS\n x e 1\nRHS\n e 5\nRANGES\n e -2\nENDATA\n";
-    let up = "ROWS\n N obj\n E e\nCOLUMNS\n x e 1\nRHS\n e 5\nRANGES\n e 2\nENDATA\n";
-    let none = "ROWS\n N obj\n E e\nCOLUMNS\n x e 1\nRHS\n e 5\nRANGES\n e 0\nENDATA\n";
-    assert!(rt; has_sides(&rt, down, 3, 5));
-    assert!(rt; has_sides(&rt, up, 5, 7));
-    assert!(rt; has_sides(&rt, none, 5, 5));
-}
-
-// Whether the columns are a negative high bound without and with an earlier low bound, and three marked ones.
-fn has_bounds(p: &Program) -> bool {
-    if p.columns() != 5 {
-        return false;
-    }
-    let (free, held) = (p.column(0), p.column(1));
-    let (binary, lower, upper) = (p.column(2), p.column(3), p.column(4));
-    free.low.is_none()
-        && is_at(free.high, -1)
-        && is_at(held.low, -2)
-        && is_at(held.high, -1)
-        && is_at(binary.high, 1)
-        && binary.whole
-        && is_at(lower.low, 3)
-        && lower.whole
-        && is_at(upper.high, 4)
-        && upper.whole
-        && !free.whole
-}
-
-#[test]
-fn bounds(rt: HostRuntime) {
-    let text =
-        "ROWS\n N obj\nCOLUMNS\n a obj 1\n b obj 1\n c obj 1\n d obj 1\n e obj 1\nBOUNDS\n UP a -1\n LO b -2\n UP b -1\n BV c\n LI d 3\n UI e 4\nENDATA\n";
-    let read = program_of(&rt, text);
-    let holds = match &read {
-        Some(p) => has_bounds(p),
-        None => false,
-    };
-    assert!(rt; holds);
 }
 
 // A comment of 64 bytes with its line feed, so often.
