@@ -20,6 +20,3 @@ pub use kinds::{CertKind, CertStop};
 pub use laws::{numbers_are_read_back, texts_are_read_back};
 pub use reading::read_certificate;
 pub use writing::write_certificate;
-
-#[cfg(test)]
-mod tests;

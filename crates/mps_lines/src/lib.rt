@@ -25,6 +25,3 @@ pub use draft::Draft;
 pub use numbers::{Entry, Target};
 pub use reading::{rest, told};
 pub use stop::{Place, ReadStop};
-
-#[cfg(test)]
-mod tests;

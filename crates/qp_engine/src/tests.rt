@@ -3,6 +3,9 @@
 ghost use Rattle.std.specs.Prelude.{◌≤◌};
 
 use crate::{Status, run};
+use cert_text::{read_certificate, write_certificate};
+use mps_reader::read;
+use program_model::Program;
 use qp_io::{MemorySink, MemorySource, Sink, Source, SteadySink, SteadySource};
 use std::alloc::Global;
 use std::test::Fail;
@@ -30,6 +33,48 @@ fn joined(alloc: Global, parts: &[&str]) -> Result<Vec<u8>, Fail> {
         bytes.extend_from_slice(part.as_bytes())?;
     }
     Ok(bytes)
+}
+
+fn read_program(alloc: Global, text: &str) -> Option<Program> {
+    if text.len() > 1000 {
+        return None;
+    }
+    match read(alloc, text.as_bytes()) {
+        Ok((program, _)) => Some(program),
+        Err(_) => None,
+    }
+}
+
+// Whether a text is read as a certificate with that very text.
+fn is_written_again(alloc: Global, p: &Program, text: &str) -> bool {
+    if text.len() > 1000 {
+        return false;
+    }
+    match read_certificate(alloc, p, text.as_bytes(), 1) {
+        Ok(c) => {
+            let mut out = Vec::new(alloc);
+            write_certificate(p, &c, &mut out).is_ok() && out.as_slice() == text.as_bytes()
+        }
+        Err(_) => false,
+    }
+}
+
+#[test]
+fn certificates_are_written_again(rt: HostRuntime) -> Result<(), Fail> {
+    let alloc = rt.alloc();
+    let Some(p) = read_program(alloc, FIRST) else {
+        return Err(Fail::new("not read"));
+    };
+    for text in [
+        "OPTIMAL\nVALUE 8\nPOINT x 2\nPOINT y 3\nSQUARE 2\nCOEF x 1\nSQUARE 8\nCOEF y 1\nBOUND\nW x 2\nW y 3\nY c2 -4\nEND\n",
+        "OPTIMAL\nVALUE -1\nPOINT x 1\nBRANCH x 1\nBOUND\nW x 1\nFARKAS\nY c1 -1\nEND\n",
+        "INFEASIBLE\nBRANCH x -3\nFARKAS\nY c1 1/2\nCROSS y\nEND\n",
+        "UNBOUNDED\nRAY x 1\nEND\n",
+        "NOTCONVEX\nVECTOR x 1\nVECTOR y -13/6\nEND\n",
+    ] {
+        assert!(rt; is_written_again(alloc, &p, text), "{text}");
+    }
+    Ok(())
 }
 
 fn done<S: Source, T: Sink>(
@@ -92,6 +137,11 @@ fn certificates_of_a_refuted_program(rt: HostRuntime) -> Result<(), Fail> {
             "INFEASIBLE\nFARKAS\nY r2 2/4\nEND\n",
             Status::FileRefused,
             "FILE 12 CertNumber\n",
+        ),
+        (
+            "* kept\n \t\r\n\nEND",
+            Status::FileRefused,
+            "FILE 13 CertEnd\n",
         ),
         ("\n\n", Status::FileRefused, "FILE 12 CertEnd\n"),
         ("", Status::FileRefused, "FILE 10 CertEnd\n"),
@@ -342,6 +392,90 @@ fn canonical_texts(rt: HostRuntime) -> Result<(), Fail> {
 }
 
 #[test]
+fn texts_as_tools_write_them(rt: HostRuntime) -> Result<(), Fail> {
+    let alloc = rt.alloc();
+    for (input, text) in [
+        (
+            "ROWS\n N o\n N info\n G e\nCOLUMNS\n x\to 1 e\t2\n* a comment\n\n x info 5 info 6\nRHS\n A e 2 info 3\n B e 7 e 8\nRANGES\n e 4\n A o 1\nBOUNDS\n UP A x -1\n MI x\n UP A x 3\nQMATRIX\n x x 1\nENDATA\n",
+            "NAME\nROWS\n N o\n G e\nCOLUMNS\n x o 1\n x e 2\nRHS\n RHS e 2\nRANGES\n RNG e 4\nBOUNDS\n MI BND x\n UP BND x 3\nQUADOBJ\n x x 1\nENDATA\n",
+        ),
+        (
+            "ROWS\n N a234567890b234567890c234567890d234567890e234567890f234567890g234\nCOLUMNS\nENDATA",
+            "NAME\nROWS\n N a234567890b234567890c234567890d234567890e234567890f234567890g234\nCOLUMNS\nENDATA\n",
+        ),
+        (
+            "* plan of one week\r\nNAME          PLANT\r\nROWS\r\n N  COST\r\n G  NEED\r\n N  INFO\r\nCOLUMNS\r\n    MARK0001  'MARKER'                 'INTORG'\r\n    X         COST               3.5   NEED               1.0\r\n    X         INFO                 7\r\n    MARK0002  'MARKER'                 'INTEND'\r\n    Y         COST              2e+0   NEED              1.00\r\nRHS\r\n    RHS       NEED               4.5\r\nBOUNDS\r\n UP BOUND     Y                  2.0\r\nENDATA",
+            "NAME\nROWS\n N COST\n G NEED\nCOLUMNS\n MARKER 'MARKER' 'INTORG'\n X COST 7/2\n X NEED 1\n MARKER 'MARKER' 'INTEND'\n Y COST 2\n Y NEED 1\nRHS\n RHS NEED 9/2\nBOUNDS\n UP BND Y 2\nENDATA\n",
+        ),
+        (
+            "ROWS\n N obj\n E e\nCOLUMNS\n x e 1\nRHS\n e 5\nRANGES\n e -2\nENDATA\n",
+            "NAME\nROWS\n N obj\n G e\nCOLUMNS\n x obj 0\n x e 1\nRHS\n RHS e 3\nRANGES\n RNG e 2\nENDATA\n",
+        ),
+        (
+            "ROWS\n N obj\n E e\nCOLUMNS\n x e 1\nRHS\n e 5\nRANGES\n e 2\nENDATA\n",
+            "NAME\nROWS\n N obj\n G e\nCOLUMNS\n x obj 0\n x e 1\nRHS\n RHS e 5\nRANGES\n RNG e 2\nENDATA\n",
+        ),
+        (
+            "ROWS\n N obj\n E e\nCOLUMNS\n x e 1\nRHS\n e 5\nRANGES\n e 0\nENDATA\n",
+            "NAME\nROWS\n N obj\n E e\nCOLUMNS\n x obj 0\n x e 1\nRHS\n RHS e 5\nENDATA\n",
+        ),
+        (
+            "ROWS\n N obj\nCOLUMNS\n a obj 1\n b obj 1\n c obj 1\n d obj 1\n e obj 1\nBOUNDS\n UP a -1\n LO b -2\n UP b -1\n BV c\n LI d 3\n UI e 4\nENDATA\n",
+            "NAME\nROWS\n N obj\nCOLUMNS\n a obj 1\n b obj 1\n MARKER 'MARKER' 'INTORG'\n c obj 1\n d obj 1\n e obj 1\n MARKER 'MARKER' 'INTEND'\nBOUNDS\n MI BND a\n UP BND a -1\n LO BND b -2\n UP BND b -1\n UP BND c 1\n LO BND d 3\n UP BND e 4\nENDATA\n",
+        ),
+    ] {
+        assert!(rt;
+            answers(alloc, "write", &[input], 4096, Status::Done, text)?,
+            "{input}"
+        );
+    }
+    Ok(())
+}
+
+#[test]
+fn faults_of_certificates(rt: HostRuntime) -> Result<(), Fail> {
+    let alloc = rt.alloc();
+    for (certificate, text) in [
+        ("INFEASIBLE\nCROSS x\nEND", "FILE 21 CertEnd\n"),
+        ("INFEASIBLE\nCROSS x\n", "FILE 21 CertEnd\n"),
+        ("NOTCONVEX\nEND\n\n", "FILE 21 CertAfter\n"),
+        ("NOTCONVEX\nEND\nx", "FILE 21 CertAfter\n"),
+        ("INFEASIBLE\nFARKAS\nY c2  1\n", "FILE 21 CertLine\n"),
+        ("INFEASIBLE\nFARKAS\nY  1\n", "FILE 21 CertLine\n"),
+        ("INFEASIBLE\nFARKAS\nY c2 \n", "FILE 21 CertLine\n"),
+        ("INFEASIBLE\nCROSS x\nCROSS x\n", "FILE 21 CertLine\n"),
+        ("OPTIMAL\nVALUE 1\nEND\n", "FILE 21 CertLine\n"),
+        ("INFEASIBLE\nFARKAS\nBOUND\n", "FILE 21 CertLine\n"),
+        ("INFEASIBLE\nFARKAS\nY x 1\n", "FILE 21 CertName\n"),
+        ("INFEASIBLE\nBRANCH x 1\nCROSS c1\n", "FILE 21 CertName\n"),
+        (
+            "INFEASIBLE\nFARKAS\nY c1 170141183460469231731687303715884105728/2\n",
+            "FILE 21 CertPast\n",
+        ),
+        ("INFEASIBLE\nFARKAS\nY c2 -0\n", "FILE 21 CertNumber\n"),
+        ("INFEASIBLE\nFARKAS\nY c2 007\n", "FILE 21 CertNumber\n"),
+        ("INFEASIBLE\nFARKAS\nY c2 0\n", "FILE 21 CertNumber\n"),
+        ("OPTIMAL\nVALUE 8\nSQUARE -1\n", "FILE 21 CertNumber\n"),
+        (
+            "INFEASIBLE\nBRANCH x 1\nBRANCH x 1/2\n",
+            "FILE 21 CertNumber\n",
+        ),
+        (
+            "UNBOUNDED\nPOINT x 1\nRAY x 170141183460469231731687303715884105728/1\n",
+            "FILE 21 CertNumber\n",
+        ),
+        ("UNBOUNDED\nPOINT y 2\nPOINT x 2\n", "FILE 21 CertOrder\n"),
+    ] {
+        let input = [FIRST, certificate];
+        assert!(rt;
+            answers(alloc, "check", &input, 4096, Status::FileRefused, text)?,
+            "{certificate}"
+        );
+    }
+    Ok(())
+}
+
+#[test]
 fn faults_of_programs(rt: HostRuntime) -> Result<(), Fail> {
     let alloc = rt.alloc();
     let base = "ROWS\n N obj\nCOLUMNS\n x obj 1\n y obj 1\n";
@@ -349,10 +483,38 @@ fn faults_of_programs(rt: HostRuntime) -> Result<(), Fail> {
         ("", "", "FILE 1 NoEnd\n"),
         ("ROWS\n N obj", "", "FILE 3 NoEnd\n"),
         ("ROWS\n L c\nCOLUMNS\n", "", "FILE 3 NoObjective\n"),
+        ("ROWS\n N obj\nENDATA\n", "", "FILE 3 SectionOrder\n"),
+        ("ROWS\n N obj\n L obj\n", "", "FILE 3 NameTwice\n"),
+        (" N obj\n", "", "FILE 1 SectionOrder\n"),
+        ("ROWS\n F obj\n", "", "FILE 2 RowKind\n"),
+        ("ROWS\n N 'MARKER'\n", "", "FILE 2 Marker\n"),
+        ("ROWS\n N o\robj\n", "", "FILE 2 NotAscii\n"),
+        (
+            "ROWS\n N a234567890b234567890c234567890d234567890e234567890f234567890g2345\n",
+            "",
+            "FILE 2 NameLong\n",
+        ),
         (base, "QSECTION\n", "FILE 6 UnknownSection\n"),
+        (base, "OBJSENSE\n", "FILE 6 MaxSense\n"),
+        (base, "ROWS\n", "FILE 6 SectionOrder\n"),
+        (base, " z obj 1 obj 2\n", "FILE 6 EntryTwice\n"),
+        (
+            base,
+            " z obj 170141183460469231731687303715884105728\n",
+            "FILE 6 NumberPast\n",
+        ),
+        (
+            base,
+            " M 'MARKER' 'INTORG'\n M 'MARKER' 'INTORG'\n",
+            "FILE 7 Marker\n",
+        ),
         (base, "BOUNDS\n SC B x 4\n", "FILE 7 BoundKind\n"),
+        (base, "QUADOBJ\n x y 1\n y x 1\n", "FILE 8 EntryTwice\n"),
+        (base, "DMATRIX\n x x 1e38\n", "FILE 7 NumberPast\n"),
         (base, "QMATRIX\n x y 1\nENDATA\n", "FILE 7 NotSymmetric\n"),
         (base, "RHS\n RHS z 1\n", "FILE 7 NameUnknown\n"),
+        (base, "RHS\n RHS obj 1.2.3\n", "FILE 7 NumberText\n"),
+        (base, "RHS\n RHS\n", "FILE 7 Fields\n"),
         (base, "ENDATA\nmore", "FILE 7 SectionOrder\n"),
     ] {
         for word in ["write", "solve"] {
