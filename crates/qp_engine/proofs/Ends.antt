@@ -1,7 +1,6 @@
 -- How a run that met what was due ended.
-use Rattle.std.proofs.Common.{◌≡◌, ◌≢◌, ℕ, ◌≤◌, ◌<◌, List, [], ◌∷◌, ◌++◌, length, Option, Some, None, IfSome, Result, Ok, Err, Bool, true, false, sym, refl, subst, ◌∙◌, append-nil, codes, arith, inl, inr}
+use Rattle.std.proofs.Common.{◌≡◌, ℕ, ◌<◌, List, [], length, Option, Some, None, IfSome, sym, refl, subst, append-nil, codes, inl, inr}
 use Rattle.std.specs.Io.KnownBytes.{Appends, Keeps}
-use Rattle.std.proofs.lemmas.Bool.{le-ltb, lt-ltb}
 use Rattle.qp_streams.specs.Streams.{TakesFront}
 use Rattle.qp_engine.specs.Said.{Said}
 use Rattle.qp_engine.specs.Due.{longest, file_due, IsDue}

@@ -1,5 +1,5 @@
 -- What is due, case by case.
-use Rattle.std.proofs.Common.{◌≡◌, ℕ, ◌≤◌, ◌<◌, List, length, Result, Ok, Err, refl, subst, codes, arith}
+use Rattle.std.proofs.Common.{◌≡◌, ℕ, ◌≤◌, ◌<◌, List, length, Result, Ok, Err, codes}
 use Rattle.std.proofs.lemmas.Bool.{le-ltb, lt-ltb}
 use Rattle.program_law.specs.Program.{Program}
 use Rattle.check_law.specs.Chain.{NoTestFails}

@@ -1,5 +1,5 @@
 -- The certificates that the search finds, and the marks of columns.
-use Rattle.std.proofs.Common.{◌≡◌, ◌⊎◌, inl, inr, ℕ, ◌<◌, ◌^◌, List, [], ◌∷◌, length, refl, arith, Some, None, Option, Bool, true, false, map, slice_get, slice_index_or, nat_lt, zero, suc, ◌+◌, ◌≤◌, ap, sym, ◌∙◌, subst, Ok, Err, codes}
+use Rattle.std.proofs.Common.{◌≡◌, inl, inr, ℕ, ◌<◌, List, [], ◌∷◌, length, refl, arith, Some, Bool, true, false, map, slice_get, slice_index_or, nat_lt, zero, suc, ◌+◌, ◌≤◌, ap, sym, ◌∙◌, subst, Ok, Err, codes}
 use Rattle.std.proofs.lemmas.Bool.Decides.{nat_tests}
 use Rattle.std.proofs.lemmas.Option.{get_or_from_slice_get}
 use Rattle.rational.specs.Rational.{ℚ}

@@ -1,5 +1,5 @@
 -- How a run is to end for its task and its input, and what it is to write.
-use Rattle.std.specs.Prelude.{◌≡◌, ℕ, Bool, true, false, ◌+◌, ◌-◌, List, [], ◌∷◌, ◌++◌, length, drop, Option, Some, None, Result, Ok, Err, nat_lt, codes}
+use Rattle.std.specs.Prelude.{◌≡◌, ℕ, Bool, true, false, ◌+◌, ◌-◌, List, ◌++◌, length, drop, Option, Some, None, Result, Ok, Err, nat_lt, codes}
 use Rattle.std.specs.Fmt.{decimal}
 use Rattle.program_law.specs.Program.{Program}
 use Rattle.certificate_law.specs.declared.Certificate.{Certificate}

@@ -1,5 +1,5 @@
 -- What a run did, as against what was due.
-use Rattle.std.specs.Prelude.{◌≡◌, ◌⊎◌, ℕ, List, [], ◌∷◌, Option, Some, None, IsSomeAnd, Result, Ok, IsOkAnd, Bool, true, false, ⊤, codes, drop, string_bytes, bytes_eq, String, if◌then◌else◌}
+use Rattle.std.specs.Prelude.{◌≡◌, ◌⊎◌, ℕ, List, [], ◌∷◌, Option, Some, None, IsSomeAnd, Ok, IsOkAnd, ⊤, codes, drop, string_bytes, bytes_eq, String, if◌then◌else◌}
 use Rattle.std.specs.Io.KnownBytes.{Appends, Keeps}
 use Rattle.program_law.specs.Program.{Program}
 use Rattle.program_law.specs.Verdict.{IsTrueOf}
