@@ -1,0 +1,6 @@
+//! The descent on a face of a form's solutions: from a point to one that is stationary on its support.
+#![tactic(auto)]
+
+mod shrinking;
+
+pub use shrinking::{FaceStop, shrink};
