@@ -5,3 +5,4 @@ mod Directions
 mod Systems
 mod Steps
 mod Walks
+mod Valley

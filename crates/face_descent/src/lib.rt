@@ -7,3 +7,6 @@ mod step;
 mod system;
 
 pub use shrinking::{FaceStop, shrink};
+
+#[cfg(test)]
+mod tests;
