@@ -6,6 +6,4 @@ mod columns;
 mod products;
 
 pub use basis::Basis;
-
-#[cfg(test)]
-mod tests;
+pub use columns::unit_columns;

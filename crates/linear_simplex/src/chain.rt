@@ -1,6 +1,6 @@
 // The chain of bases.
 
-ghost use Rattle.basis_law.specs.Basis.{IsFinal, IsZeroCost};
+ghost use Rattle.basis_law.specs.Basis.{IsBasis, IsFinal, IsZeroCost, Tableau};
 ghost use Rattle.basis_law.specs.Exchange.{IsLeaving};
 ghost use Rattle.basis_law.specs.Operations.{basis_ops};
 ghost use Rattle.basis_law.specs.Problem.{width, IsProblem, Problem};
@@ -9,13 +9,14 @@ ghost use Rattle.linear_basis.specs.Kept.{IsStopOf as IsStopIn, kept, problem, t
 ghost use Rattle.linear_simplex.specs.Decided.{IsAnswerOf, IsStopOf, IsTrueOf};
 ghost use Rattle.linear_simplex.specs.Turns.{Gives, IsKept, IsNext, IsReached, IsRefusal, IsStopAt, IsStopNear, LeadsTo};
 ghost use Rattle.rational.specs.Rational.{ℚ};
-ghost use Rattle.std.specs.Prelude.{◌≡◌, ◌<◌, ◌^◌, List, length, slice_set, IfErr, IfOk, OnOk};
+ghost use Rattle.std.specs.Prelude.{◌≡◌, ◌<◌, ◌≤◌, ◌^◌, List, length, slice_set, IfErr, IfOk, OnOk};
 
 use crate::answers::{Feasible, LinearStop, Next};
 use crate::pricing::entering;
 use crate::products::column;
 use crate::ratio::{coordinates, leaving};
 use crate::verdicts::{is_zero_cost, negated, solution};
+use crate::whole::{Led, whole_chain};
 use exact_matrix::{Matrix, Stop};
 use frac_core::{Frac, Memory, Refused, Vector};
 use linear_basis::Basis;
@@ -74,7 +75,7 @@ fn place(alloc: Global, m: &Matrix<Frac>, basis: &Basis, enter: usize) -> Result
 {
     let column = column(alloc, m, enter)?;
     let coordinates = coordinates(alloc, basis.inverse(), &column)?;
-    let Some(leave) = leaving(basis.point(), basis.inverse(), &coordinates)? else {
+    let Some(leave) = leaving(basis.point(), basis.inverse(), &coordinates) else {
         unreachable!()
     };
     Ok(leave)
@@ -122,10 +123,59 @@ fn exchange(
     }
 }
 
+// Goes on from a basis to which a chain of so many strict steps leads.
+fn goes_on(
+    alloc: Global,
+    m: &Matrix<Frac>,
+    r: &Vector<Frac>,
+    basis: &mut Basis,
+    steps: u64,
+    bases: u64,
+) -> Result<Feasible, LinearStop>
+    requires problem { IsProblem (problem m.now r.now) }
+    requires few { width (problem m.now r.now) < 2 ^ 32 }
+    requires reached { IsReached (problem m.now r.now) steps basis.old }
+    requires steps { steps ≤ bases }
+    ensures answer { IfOk result (IsAnswerOf (problem m.now r.now) bases) }
+    ensures right { IfOk result (IsTrueOf (problem m.now r.now)) }
+    ensures stop { IfErr result (IsStopOf (problem m.now r.now) bases) }
+{
+    for _ in steps..bases {
+        match next(alloc, m, basis)? {
+            Next::Known(answer) => return Ok(answer),
+            Next::Enters(column) => exchange(alloc, m, r, basis, column)?,
+        }
+    }
+    match next(alloc, m, basis)? {
+        Next::Known(answer) => Ok(answer),
+        Next::Enters(_) => Err(LinearStop::Spent(basis.columns().copied()?)),
+    }
+}
+
+// The basis of these columns, of which it is known that a chain leads to it.
+fn basis_of(
+    alloc: Global,
+    m: &Matrix<Frac>,
+    r: &Vector<Frac>,
+    columns: &Vector<u32>,
+) -> Result<Basis, LinearStop>
+    requires problem { IsProblem (problem m.now r.now) }
+    requires basis { (b : Tableau) × IsBasis (problem m.now r.now) b × (b.columns ≡ columns.now) }
+    ensures ok { (b : Tableau) → IsBasis (problem m.now r.now) b → b.columns ≡ columns.now → IfOk result (λ k. k ≡ kept (problem m.now r.now) b) }
+    ensures stop { (b : Tableau) → IsBasis (problem m.now r.now) b → b.columns ≡ columns.now → IfErr result (IsStopAt (problem m.now r.now) b) }
+{
+    match Basis::of_columns(alloc, m, r, columns.copied()?) {
+        Ok(basis) => Ok(basis),
+        Err(Stop::Memory) => Err(LinearStop::Memory),
+        Err(Stop::Past(refused)) => Err(refusal(columns, refused)),
+    }
+}
+
 /// Whether `m z = r` has a solution that is not below 0.
 ///
 /// The chain begins with the unit columns. From a basis that gives the unit columns a value, the first column of M with a price below 0
-/// comes in, in the place that the lexicographic ratio rule says (Dantzig, Orden and Wolfe).
+/// comes in, in the place that the lexicographic ratio rule says (Dantzig, Orden and Wolfe). It is calculated with rows of whole numbers;
+/// where one doesn't fit, it goes on from the same columns with fractions.
 ///
 /// # Errors
 ///
@@ -142,15 +192,15 @@ pub fn feasible(
     ensures right { IfOk result (IsTrueOf (problem m.now r.now)) }
     ensures stop { IfErr result (IsStopOf (problem m.now r.now) bases) }
 {
-    let mut basis = Basis::start(alloc, m, r)?;
-    for _ in 0..bases {
-        match next(alloc, m, &basis)? {
-            Next::Known(answer) => return Ok(answer),
-            Next::Enters(column) => exchange(alloc, m, r, &mut basis, column)?,
+    match whole_chain(alloc, m, r, bases)? {
+        Led::Known(answer) => Ok(answer),
+        Led::To(columns, steps) => {
+            let mut basis = basis_of(alloc, m, r, &columns)?;
+            goes_on(alloc, m, r, &mut basis, steps, bases)
         }
-    }
-    match next(alloc, m, &basis)? {
-        Next::Known(answer) => Ok(answer),
-        Next::Enters(_) => Err(LinearStop::Spent(basis.columns().copied()?)),
+        Led::Nowhere => {
+            let mut basis = Basis::start(alloc, m, r)?;
+            goes_on(alloc, m, r, &mut basis, 0, bases)
+        }
     }
 }
