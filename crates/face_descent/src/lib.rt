@@ -1,12 +1,12 @@
-//! The descent on a face of a form's solutions: from a point to one that is stationary on its support.
+//! The descent on a face of a form's solutions: from a point to one that is stationary on its support; and the steps that it is made of.
 #![tactic(auto)]
 
-mod gradient;
 mod shrinking;
+mod slopes;
 mod step;
 mod system;
 
 pub use shrinking::{FaceStop, shrink};
-
-#[cfg(test)]
-mod tests;
+pub use slopes::{gradient, product, product_added};
+pub use step::{moved, nearest_zero, smaller};
+pub use system::{kept_form, support};
