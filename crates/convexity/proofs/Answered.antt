@@ -10,7 +10,7 @@ use Rattle.exact_matrix.specs.declared.systems.Stop.TheVariants.{Memory, Past}
 use Rattle.convexity.specs.declared.Curvature.{Curvature}
 use Rattle.convexity.specs.declared.Curvature.TheVariants.{Squares, Negative}
 use Rattle.convexity.specs.Half.{upper_half}
-use Rattle.convexity.specs.Meaning.{HasWidth, IsAnswer, IsAnswerOf, IsCurvatureOf}
+use Rattle.convexity.specs.Meaning.{AreFew, HasWidth, IsAnswer, IsAnswerOf, IsCurvatureOf}
 use Rattle.convexity.specs.Places.{answer_at, answer_found, squares_of_rows, IsReduced}
 use Rattle.convexity.specs.Reduction.{curvature_of}
 use Rattle.convexity.specs.ReductionCalculation.{squares_from, squares_of}
@@ -19,6 +19,7 @@ use Rattle.convexity.proofs.Entries.{program_symmetric}
 use Rattle.convexity.proofs.Curved.{curved, curved_width}
 use Rattle.convexity.proofs.Steps.{squares_done, at_start}
 use Rattle.convexity.proofs.Triangles.{length-upper}
+use Rattle.convexity.proofs.Few.{few_of}
 use Rattle.convexity.proofs.Ended.{answer_is_exact, answer_is_within, refusal_is_first}
 
 -- the whole calculation is the reduction from the first place on
@@ -66,3 +67,7 @@ module _ (p : Program) (program : IsProgram p) where
       subst (λ (n : ℕ). HasWidth n c) program.pairs_height
       (subst (λ (c : Curvature). HasWidth (length p.pairs) c) (sym (answer_is_exact p.pairs c (program_symmetric p program) h)) (curved_width p.pairs (program_symmetric p program)))
   width_is (Err e) h = tt
+
+  pub few_is : (result : Result Curvature Stop) → IsAnswer (squares_of p.pairs) result → IfOk result (AreFew (length p.columns))
+  few_is (Ok c) h = subst (λ (n : ℕ). AreFew n c) program.pairs_height (subst (AreFew (length p.pairs)) (sym (answer_is_exact p.pairs c (program_symmetric p program) h)) (few_of p.pairs))
+  few_is (Err e) h = tt

@@ -7,3 +7,4 @@ pub mod Steps
 pub mod Answered
 pub mod Triangles
 pub mod WorkedReduction
+pub mod Few

@@ -1,5 +1,5 @@
 -- What the answer of a symmetric matrix says, and what a call answers.
-use Rattle.std.specs.Prelude.{◌≡◌, ℕ, List, length, All, Result, Ok, Err}
+use Rattle.std.specs.Prelude.{◌≡◌, ℕ, ◌≤◌, List, length, All, Result, Ok, Err}
 use Rattle.rational.specs.Rational.{ℚ, zero_ℚ}
 use Rattle.rational.specs.Order.{◌<ℚ◌}
 use Rattle.frac_core.specs.Parts.{max_part}
@@ -21,6 +21,11 @@ IsCurvatureOf q (Negative v) = form q v v <ℚ zero_ℚ
 abbrev pub HasWidth : ℕ → Curvature → Type 0
 HasWidth n (Squares ss) = All (λ s. length s.coef ≡ n) ss
 HasWidth n (Negative v) = length v ≡ n
+
+-- there are at most n squares
+abbrev pub AreFew : ℕ → Curvature → Type 0
+AreFew n (Squares ss) = length ss ≤ n
+AreFew n (Negative v) = Unit {0}
 
 -- the call answers what the calculation does, unless memory runs out
 abbrev pub IsAnswer : Result Curvature Refused → Result Curvature Stop → Type 0

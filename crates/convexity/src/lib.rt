@@ -1,7 +1,7 @@
 //! Squares that sum to the form of a program, or a vector with a negative form.
 #![tactic(auto)]
 
-ghost use Rattle.convexity.specs.Meaning.{HasWidth, IsAnswer, IsAnswerOf, IsCurvatureOf};
+ghost use Rattle.convexity.specs.Meaning.{AreFew, HasWidth, IsAnswer, IsAnswerOf, IsCurvatureOf};
 ghost use Rattle.convexity.specs.Reduction.{curvature_of};
 ghost use Rattle.convexity.specs.ReductionCalculation.{squares_of};
 ghost use Rattle.convexity.specs.ReductionOperations.{squares_ops};
@@ -74,10 +74,8 @@ pub fn squares(alloc: Global, p: &Program) -> Result<Curvature, Stop>
     ensures exact { IfOk result (λ c. c ≡ curvature_of p.now.pairs) }
     ensures right { IfOk result (λ c. IsCurvatureOf p.now.pairs c) }
     ensures width { IfOk result (λ c. HasWidth (length p.now.columns) c) }
+    ensures few { IfOk result (AreFew (length p.now.columns)) }
 {
     let _columns = p.columns();
     calculated(alloc, p)
 }
-
-#[cfg(test)]
-mod tests;

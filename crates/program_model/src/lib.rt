@@ -10,8 +10,6 @@ mod program;
 mod reading;
 mod regions;
 mod sides;
-#[cfg(test)]
-mod tests;
 
 pub use faults::{AddFault, NameFault};
 pub use names::{Name, is_marker, is_name};

@@ -1,0 +1,6 @@
+mod NoRay
+mod Halted
+mod Ended
+mod Reduced
+mod Told
+mod Pathed

@@ -1,0 +1,4 @@
+pub mod Stops
+pub mod Rays
+pub mod Reaching
+pub mod Decided

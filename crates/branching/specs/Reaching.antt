@@ -1,0 +1,31 @@
+-- What a search for a point comes to.
+use Rattle.std.specs.Prelude.{◌≡◌, ℕ, ◌<◌, List, length, Option, Some, None, true, false}
+use Rattle.rational.specs.Rational.{ℚ}
+use Rattle.program_law.specs.Region.{IsCrossedRegion}
+use Rattle.program_law.specs.Program.{Program, marks}
+use Rattle.program_law.specs.Columns.{AreWholeOn}
+use Rattle.walk_law.specs.Answer.{IsFound}
+use Rattle.branching_law.specs.Nodes.{ForPoint}
+use Rattle.search_steps.specs.declared.progress.Progress.{Progress}
+use Rattle.branching.specs.declared.point.Outcome.{Outcome}
+use Rattle.branching.specs.declared.point.Outcome.TheVariants.{Found, More, Done}
+use Rattle.search_steps.specs.Progressing.{IsOnWay, work_left}
+
+-- a point that keeps the marks, at the path at hand
+pub record IsEndedBy (p : Program) (bases boxes : ℕ) (x : List ℚ) (progress : Progress) : Type 0 where
+  pub way : IsOnWay ForPoint p bases boxes true progress
+  pub uncrossed : IsCrossedRegion progress.trail.region → ⊥
+  pub found : IsFound p progress.trail.region bases x
+  pub whole : AreWholeOn (marks p) x
+  pub size : length x ≡ length p.columns
+
+-- a search ends with a point, or with no path left
+abbrev pub EndsIn : Program → ℕ → ℕ → Option (List ℚ) → Progress → Type 0
+EndsIn p bases boxes None progress = IsOnWay ForPoint p bases boxes false progress
+EndsIn p bases boxes (Some x) progress = IsEndedBy p bases boxes x progress
+
+-- what a node makes of the search; where a path is left, less work is left
+abbrev pub IsTakenTo : Program → ℕ → ℕ → Progress → Progress → Outcome → Type 0
+IsTakenTo p bases boxes old new (Found x) = IsEndedBy p bases boxes x new
+IsTakenTo p bases boxes old new More = IsOnWay ForPoint p bases boxes true new × (work_left boxes new < work_left boxes old)
+IsTakenTo p bases boxes old new Done = IsOnWay ForPoint p bases boxes false new

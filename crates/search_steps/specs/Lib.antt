@@ -1,0 +1,4 @@
+pub mod Trails
+pub mod Incumbents
+pub mod Trees
+pub mod Progressing

@@ -1,0 +1,75 @@
+-- How far a search has come, as it is kept.
+use Rattle.std.specs.Prelude.{◌≡◌, ℕ, ◌+◌, ◌*◌, ◌-◌, List, [], ◌∷◌, ◌++◌, length, Bool, true, ℤ}
+use Rattle.std.specs.List.{AllByRecursion}
+use Rattle.program_law.specs.Program.{Program}
+use Rattle.certificate_law.specs.declared.Node.{Node}
+use Rattle.certificate_law.specs.declared.Node.TheVariants.{Branch}
+use Rattle.branching_law.specs.declared.Turn.{Turn}
+use Rattle.branching_law.specs.Nodes.{Search, ForBest, ForPoint}
+use Rattle.branching_law.specs.Rounding.{IsRounding}
+use Rattle.branching_law.specs.Search.{IsEarned, branches}
+use Rattle.branching_law.specs.Searching.{IsSearching}
+use Rattle.branching_law.specs.Sizes.{HasNumber, IsBranchNumber}
+use Rattle.search_steps.specs.Incumbents.{point_of, HasValue}
+use Rattle.search_steps.specs.Trails.{waiting_of, paths_left, IsTrail, GoesBelow}
+use Rattle.search_steps.specs.Trees.{nodes_before}
+use Rattle.search_steps.specs.declared.trails.Trail.{Trail}
+use Rattle.search_steps.specs.declared.progress.Progress.{Progress}
+
+-- the nodes that were put are those of rounding and of a search on its way; `more` says whether a path is at hand
+pub record IsOnWay (aim : Search) (p : Program) (bases boxes : ℕ) (more : Bool) (progress : Progress) : Type 0 where
+  pub nodes : List Node
+  pub put : progress.nodes ≡ nodes_before progress.trail.turns ++ nodes
+  pub searching : IsSearching aim p bases boxes progress.trail.turns nodes (paths_left more progress.trail) (point_of progress.incumbent)
+  pub trail : more ≡ true → IsTrail p progress.trail
+  pub count : progress.branches ≡ branches nodes
+  pub value : HasValue p progress.incumbent
+  pub numbers : AllByRecursion HasNumber nodes
+  pub rounding_numbers : AllByRecursion (λ (t : Turn). IsBranchNumber t.k) progress.trail.turns
+
+-- a leaf was put, and the next path is at hand, if there is one
+pub record IsClosed (old : Progress) (leaf : Node) (more : Bool) (new : Progress) : Type 0 where
+  pub nodes : new.nodes ≡ old.nodes ++ leaf ∷ []
+  pub turns : new.trail.turns ≡ old.trail.turns
+  pub paths : paths_left more new.trail ≡ waiting_of old.trail
+  pub branches : new.branches ≡ old.branches
+  pub incumbent : new.incumbent ≡ old.incumbent
+
+-- a branch was put, and its lower side is at hand
+pub record IsBranched (old : Progress) (j : ℕ) (k : ℤ) (new : Progress) : Type 0 where
+  pub nodes : new.nodes ≡ old.nodes ++ Branch j k ∷ []
+  pub trail : GoesBelow old.trail j k new.trail
+  pub branches : new.branches ≡ old.branches + 1
+  pub incumbent : new.incumbent ≡ old.incumbent
+
+-- how much is left at most: each branch that may come, and each path that waits
+abbrev pub work_left : ℕ → Progress → ℕ
+work_left boxes progress = 2 * (boxes - progress.branches) + length (waiting_of progress.trail)
+
+-- a path of a search for the best
+pub record IsPathForBest (p : Program) (bases : ℕ) (path : List Turn) : Type 0 where
+  pub turns : List Turn
+  pub nodes : List Node
+  pub waiting : List (List Turn)
+  pub earned : IsEarned ForBest p bases turns nodes (path ∷ waiting)
+
+-- a path of a search for a point
+pub record IsPathForPoint (p : Program) (bases : ℕ) (path : List Turn) : Type 0 where
+  pub turns : List Turn
+  pub nodes : List Node
+  pub waiting : List (List Turn)
+  pub earned : IsEarned ForPoint p bases turns nodes (path ∷ waiting)
+
+-- a search for the best that has taken a node
+pub record HasBegun (p : Program) (bases boxes : ℕ) (more : Bool) (progress : Progress) : Type 0 where
+  pub way : IsOnWay ForBest p bases boxes more progress
+  pub first : Node
+  pub others : List Node
+  pub taken : way.nodes ≡ first ∷ others
+
+-- a root: rounding has ended, and no step was taken
+pub record IsRoot (p : Program) (root : Trail) : Type 0 where
+  pub rounding : IsRounding p root.turns
+  pub first : root.steps.items ≡ []
+  pub trail : IsTrail p root
+  pub numbers : AllByRecursion (λ (t : Turn). IsBranchNumber t.k) root.turns
