@@ -10,3 +10,8 @@ pub mod EndFaults
 pub mod Additions
 pub mod SoundLines
 pub mod GoodSides
+pub mod AppendedLines
+pub mod AppendedReading
+pub mod FileNumbers
+pub mod NamedLines
+pub mod WholePrograms

@@ -31,11 +31,11 @@ use Rattle.mps_reader.proofs.Additions.{filter-push}
 
 -- ---- tests that fail
 
-abbrev passes : Bool × FaultKind
+abbrev pub passes : Bool × FaultKind
 passes = (false, kinds.NoEnd)
 
 -- where no fault is found, each test fails
-none_holds : (ts : Tests) (k : ℕ) → first_of ts ≡ None → (get_or ts k passes).0 ≡ false
+pub none_holds : (ts : Tests) (k : ℕ) → first_of ts ≡ None → (get_or ts k passes).0 ≡ false
 none_holds [] k e = refl
 none_holds (t ∷ ts) k e = by_test t.0 k refl e (none_holds ts)
   where
@@ -44,7 +44,7 @@ none_holds (t ∷ ts) k e = by_test t.0 k refl e (none_holds ts)
     by_test false zero p e again = p
     by_test false (suc k) p e again = again k e
 
-none_later : (t : Bool × FaultKind) (ts : Tests) → first_of (t ∷ ts) ≡ None → first_of ts ≡ None
+pub none_later : (t : Bool × FaultKind) (ts : Tests) → first_of (t ∷ ts) ≡ None → first_of ts ≡ None
 none_later t ts e = by_test t.0 e
   where
     by_test : (b : Bool) → (if b then Some t.1 else first_of ts) ≡ None → first_of ts ≡ None
@@ -72,7 +72,7 @@ few-more rows name kind few room = rw (filter-push rows (name, kind)) (by_kind (
     by_kind false room = omega (arith, length-append (program_rows rows) [], few)
 
 -- the tests of a row, by its kind and its name
-abbrev row_cases : Told → Option RowKind → Option (List ℕ) → Tests
+abbrev pub row_cases : Told → Option RowKind → Option (List ℕ) → Tests
 row_cases told None name = row_tests told None []
 row_cases told (Some kind) name = named_row_tests told kind name
 
@@ -175,7 +175,7 @@ pairs-sound told s ss (Some entries) h at quadratic e = record {
     by_section sections.EndData at quadratic fresh once = absurd cc
     by_section sections.ObjSense at quadratic fresh once = absurd cc
 
-row_same : (told : Told) (fields : List (List ℕ)) → row_tests told (row_kind_in fields) fields ≡ row_cases told (row_kind_in fields) (row_name_in fields)
+pub row_same : (told : Told) (fields : List (List ℕ)) → row_tests told (row_kind_in fields) fields ≡ row_cases told (row_kind_in fields) (row_name_in fields)
 row_same told fields = by_kind (row_kind_in fields)
   where
     by_kind : (kind : Option RowKind) → row_tests told kind fields ≡ row_cases told kind (row_name_in fields)
@@ -216,7 +216,7 @@ both_parts true true e = absurd cc
 both_parts true false e = refl
 both_parts false b e = absurd cc
 
-not_parts : (a : Bool) → not a ≡ false → a ≡ true
+pub not_parts : (a : Bool) → not a ≡ false → a ≡ true
 not_parts true e = refl
 not_parts false e = absurd cc
 
@@ -272,7 +272,7 @@ header-sound told (Some s) h e =
 counted-sound : (told : Told) → IsSound told → IsSound (counted told)
 counted-sound told h = same-sound told (counted told) h refl refl refl
 
-shown-none : (told : Told) (at : ℕ) (raw : List ℕ) → line_fault told at raw ≡ None → first_of (shown_tests told (without_return raw)) ≡ None
+pub shown-none : (told : Told) (at : ℕ) (raw : List ℕ) → line_fault told at raw ≡ None → first_of (shown_tests told (without_return raw)) ≡ None
 shown-none told at raw e =
     let plain : Bool × FaultKind = (not (is_comment (without_return raw)) && not (is_plain (without_return raw)), kinds.NotAscii) in
     none_later plain (shown_tests told (without_return raw)) (none_later (is_beyond at raw, kinds.TextLong) (plain ∷ shown_tests told (without_return raw)) e)

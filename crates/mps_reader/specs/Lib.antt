@@ -6,3 +6,4 @@ pub mod ByRow
 pub mod PairTable
 pub mod Built
 pub mod Reading
+pub mod Appended

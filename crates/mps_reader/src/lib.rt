@@ -5,15 +5,16 @@ mod building;
 mod columns;
 mod faults;
 mod finishing;
+mod laws;
 mod naming;
 mod numbers;
 mod reading;
 mod rows;
 mod sides;
 
+pub use laws::{
+    appended_text_is_found, text_behind_a_program_is_not_read, what_is_read_is_a_program,
+};
 pub use mps_grammar::FaultKind;
 pub use mps_lines::{Place, ReadStop, rest};
 pub use reading::read;
-
-#[cfg(test)]
-mod tests;

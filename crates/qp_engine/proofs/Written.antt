@@ -1,10 +1,15 @@
 -- Lines that are appended one after another.
-use Rattle.std.proofs.Common.{◌≡◌, ℕ, suc, ◌+◌, ◌≤◌, List, ◌∷◌, ◌++◌, length, drop, Some, slice_get, refl, sym, ap, ◌∙◌, append_assoc, append-nil, arith, add-one}
+use Rattle.std.proofs.Common.{◌≡◌, ℕ, zero, suc, ◌+◌, ◌≤◌, ◌<◌, List, [], subst, ◌∷◌, ◌++◌, length, drop, Some, slice_get, refl, sym, ap, ◌∙◌, append_assoc, append-nil, arith, add-one, codes}
 use Rattle.std.proofs.lemmas.Option.{slice_get_within, get_or_from_slice_get}
 use Rattle.std.proofs.Math.Seq.{drop-cons}
 use Rattle.std.proofs.lemmas.List.{drop_all}
 use Rattle.rational.specs.Rational.{ℚ}
-use Rattle.qp_engine.specs.Withheld.{at_line, at_lines, basic_line, basic_lines}
+use Rattle.program_law.specs.Program.{Program}
+use Rattle.branching_law.specs.declared.Turn.{Turn}
+use Rattle.std.specs.Fmt.{signed_decimal}
+use Rattle.program_model.specs.Named.{names_of}
+use Rattle.cert_text.specs.Text.{name_at}
+use Rattle.qp_engine.specs.Withheld.{at_line, at_lines, basic_line, basic_lines, cut_word, path_lines, turn_line, IsPathIn}
 
 -- what is done, a line, and the rest
 appended : (done line rest new whole : List ℕ) → done ++ (line ++ rest) ≡ whole → new ≡ done ++ line → new ++ rest ≡ whole
@@ -34,5 +39,25 @@ basic_end done whole basis k e h = sym (append-nil done) ∙ ap (λ js. done ++ 
 pub three_parts : (text a b c one two three : List ℕ) → one ≡ text ++ a → two ≡ one ++ b → three ≡ two ++ c → three ≡ text ++ (a ++ (b ++ c))
 three_parts text a b c one two three e f g = rw (g, f, e, append_assoc text a b, append_assoc text (a ++ b) c, append_assoc a b c) refl
 
-pub two_parts : (a b c one two three : List ℕ) → one ≡ a → two ≡ one ++ b → three ≡ two ++ c → three ≡ a ++ (b ++ c)
-two_parts a b c one two three e f g = rw (g, f, e, append_assoc a b c) refl
+-- ---- paths
+
+pub turn_more : (done new whole : List ℕ) (p : Program) (path : List Turn) (k : ℕ) (t : Turn) → done ++ path_lines p (drop k path) ≡ whole → slice_get path k ≡ Some t → new ≡ done ++ turn_line p t
+    → new ++ path_lines p (drop (k + 1) path) ≡ whole
+turn_more done new whole p path k t e g n = appended done (turn_line p t) (path_lines p (drop (k + 1) path)) new whole (ap (λ ts. done ++ path_lines p ts) (sym (here path k t g)) ∙ e) n
+
+pub turn_end : (done whole : List ℕ) (p : Program) (path : List Turn) (k : ℕ) → done ++ path_lines p (drop k path) ≡ whole → length path ≤ k → done ≡ whole
+turn_end done whole p path k e h = sym (append-nil done) ∙ ap (λ ts. done ++ path_lines p ts) (sym (drop_all k path h)) ∙ e
+
+pub turn_in : (p : Program) (path : List Turn) (k : ℕ) (t : Turn) → IsPathIn p path → slice_get path k ≡ Some t → t.column < length p.columns
+turn_in p [] k t h e = absurd (omega (arith, slice_get_within [] k t e))
+turn_in p (s ∷ path) zero t h e = subst (λ (s : Turn). s.column < length p.columns) (get_or_from_slice_get (s ∷ path) 0 t s e) h.0
+turn_in p (s ∷ path) (suc k) t h e = turn_in p path k t h.1 e
+
+-- the line of a turn: its side, the name, and the number
+pub turn_put : (p : Program) (t : Turn) (text a b c one two three : List ℕ) → a ≡ cut_word t.cut → b ≡ name_at (names_of p.columns) t.column → c ≡ codes " " ++ (signed_decimal t.k ++ codes "\n")
+    → one ≡ text ++ a → two ≡ one ++ b → three ≡ two ++ c → three ≡ text ++ turn_line p t
+turn_put p t text a b c one two three d e f g h i = three_parts text a b c one two three g h i ∙ rw (d, e, f) refl
+
+-- a first line, and three parts behind it
+pub behind_first : (a b c d one two three four : List ℕ) → one ≡ a → two ≡ one ++ b → three ≡ two ++ c → four ≡ three ++ d → four ≡ a ++ (b ++ (c ++ d))
+behind_first a b c d one two three four e f g h = rw (h, g, f, e, append_assoc (a ++ b) c d, append_assoc a b (c ++ d)) refl

@@ -1,5 +1,5 @@
 -- What a run did, as against what was due.
-use Rattle.std.specs.Prelude.{◌≡◌, ◌⊎◌, ℕ, List, [], ◌∷◌, Option, Some, None, IsSomeAnd, Ok, IsOkAnd, ⊤, codes, drop, string_bytes, bytes_eq, String, if◌then◌else◌}
+use Rattle.std.specs.Prelude.{◌≡◌, ◌≢◌, ◌⊎◌, ℕ, List, Option, IsSomeAnd, Ok, IsOkAnd, ⊤, drop, map, string_bytes, String}
 use Rattle.std.specs.Io.KnownBytes.{Appends, Keeps}
 use Rattle.program_law.specs.Program.{Program}
 use Rattle.program_law.specs.Verdict.{IsTrueOf}
@@ -10,21 +10,23 @@ use Rattle.cert_text.specs.Text.{certificate_text}
 use Rattle.cert_text.specs.Reading as reading
 use Rattle.qp_streams.specs.Streams.{TakesFront}
 use Rattle.qp_engine.specs.Said.{Said}
-use Rattle.qp_engine.specs.declared.tasks.Task.{Task}
-use Rattle.qp_engine.specs.declared.tasks.Task.TheVariants.{Check, Write, Solve}
+use Rattle.qp_engine.specs.Sampling.{HasSampled}
+use Rattle.qp_words.specs.Orders.{order_of}
+use Rattle.qp_words.specs.declared.order.Order.{Order}
+use Rattle.qp_words.specs.declared.order.Task.{Task}
+use Rattle.qp_words.specs.declared.order.Task.TheVariants.{Check, Write, Solve, Sample}
 use Rattle.qp_engine.specs.declared.status.Status.{Status}
 use Rattle.qp_engine.specs.declared.status.Status.TheVariants as status
 
 -- ---- words
 
-abbrev pub task_named : List ℕ → Option Task
-task_named word = if bytes_eq word (codes "check") then Some Check else (if bytes_eq word (codes "write") then Some Write else (if bytes_eq word (codes "solve") then Some Solve else None))
+-- what the words order, where they are taken
+abbrev pub ordered_by : {A : Type 0} → List (String A) → Option Order
+ordered_by words = order_of (map string_bytes words)
 
--- the one word names a task
-abbrev pub task_of : {A : Type 0} → List (String A) → Option Task
-task_of [] = None
-task_of (word ∷ []) = task_named (string_bytes word)
-task_of (word ∷ other ∷ more) = None
+-- a task that reads the source
+abbrev pub IsReading : Order → Type 0
+IsReading order = order.task ≢ Sample
 
 -- ---- output
 
@@ -38,6 +40,10 @@ HasText status.FileRefused = ⊤
 HasText status.Usage = ⊤
 HasText status.Withheld = ⊤
 HasText status.Rejected = ⊤
+
+-- the status of a verdict, or of one that is withheld
+abbrev pub IsVerdict : Status → Type 0
+IsVerdict s = (s ≡ status.Done) ⊎ (s ≡ status.Withheld)
 
 -- The run ended with the status that was due, and the sink took exactly the text. Or the reading failed, and nothing was
 -- taken. Or the writing failed or memory ran out, and the sink took a front of the text.
@@ -82,6 +88,7 @@ abbrev pub SettlesProgram : Task → List ℕ → List ℕ → Program → Spot 
 SettlesProgram Check input text p behind = HasVerified p input (rest_of input behind)
 SettlesProgram Write input text p behind = ⊤
 SettlesProgram Solve input text p behind = HasSolved p text
+SettlesProgram Sample input text p behind = ⊥
 
 -- What Done says of an input and of the text that was written: the input is a program, and for `check` a certificate follows whose verdict is
 -- true of it; for `solve` the text is that of such a certificate.
@@ -91,3 +98,7 @@ Settles task input text = IsOkAnd (read_of input) (λ r. SettlesProgram task inp
 -- what was written settles the input
 abbrev pub HasSettled : Task → List ℕ → Option (List ℕ) → Option (List ℕ) → Type 0
 HasSettled task input old new = (text : List ℕ) × Appends old new text × Settles task input text
+
+-- what was written tells the least value of the sample
+abbrev pub HasShown : Order → Option (List ℕ) → Option (List ℕ) → Type 0
+HasShown order old new = (text : List ℕ) × Appends old new text × HasSampled order text

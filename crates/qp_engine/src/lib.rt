@@ -3,14 +3,17 @@
 
 mod answers;
 mod judging;
+mod laws;
+mod paths;
 mod running;
+mod sampling;
+mod showing;
 mod solving;
 mod status;
-mod tasks;
 mod withheld;
 
+pub use laws::{
+    large_budgets_decide_a_program, solutions_are_accepted, written_certificates_are_accepted,
+};
 pub use running::run;
 pub use status::Status;
-
-#[cfg(test)]
-mod tests;

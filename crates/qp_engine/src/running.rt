@@ -1,18 +1,21 @@
 //! A run over a source and a sink.
 
-ghost use Rattle.std.specs.Prelude.{◌≡◌, ◌≢◌, ◌<◌, ◌^◌, [], length, None, Some, IfSome, IfOk, OnOk, IsErrOf, string_bytes};
-ghost use Rattle.std.specs.Io.KnownBytes.{Keeps};
+ghost use Rattle.std.specs.Prelude.{◌≡◌, ◌≢◌, ◌<◌, ◌≤◌, ◌^◌, [], length, None, Some, IfSome, IfOk, OnOk, IsErrOf, string_bytes};
+ghost use Rattle.std.specs.Io.KnownBytes.{IsAtEnd, Keeps};
 ghost use Rattle.qp_io.specs.Causes.{Rose};
 ghost use Rattle.qp_engine.specs.Due.{usage_due, IsDue};
-ghost use Rattle.qp_engine.specs.Runs.{task_of, HasSettled, Meets, MeetsDue, Settles};
+ghost use Rattle.qp_engine.specs.Sampling.{IsSampleDue};
+ghost use Rattle.qp_engine.specs.Runs.{ordered_by, HasSettled, HasShown, IsReading, Meets, MeetsDue, Settles};
+ghost use Rattle.qp_words.specs.Orders.{IsInRange};
 
 use crate::answers::{Answer, refused, usage};
 use crate::judging::judged;
+use crate::sampling::sampled;
 use crate::status::Status;
-use crate::tasks::{Task, task_of};
 use frac_core::Memory;
 use qp_io::{Sink, SinkStop, Source};
 use qp_streams::{ReadStop, read_all, write_all};
+use qp_words::{Order, Task, order_of};
 use std::alloc::Global;
 
 /// The most bytes of an input.
@@ -34,12 +37,16 @@ impl From<Memory> for NoAnswer {
     }
 }
 
-/// The answer to all that the source gives.
-fn answer_to<S: Source>(alloc: Global, task: Task, source: &mut S) -> Result<Answer, NoAnswer>
-    ensures due { IfOk result (λ a. IfSome (S.left source.old) (λ input. IsDue task input a)) }
+/// The answer to all that the source gives, of an order that reads it.
+fn answer_to<S: Source>(alloc: Global, order: Order, source: &mut S) -> Result<Answer, NoAnswer>
+    requires reading { IsReading order }
+    requires boxes { order.boxes ≤ 20000 }
+    ensures due { IfOk result (λ a. IfSome (S.left source.old) (λ input. IsDue order input a)) }
     ensures settled { IfOk result (λ a. a.status ≡ Status.Done →
-        IfSome (S.left source.old) (λ input. Settles task input a.text)) }
+        IfSome (S.left source.old) (λ input. Settles order.task input a.text)) }
     ensures no_usage { IfOk result (λ a. a.status ≢ Status.Usage) }
+    ensures rejected { IfOk result (λ a. a.status ≡ Status.Rejected → order.task ≡ Task.Check) }
+    ensures read_to_its_end { IfOk result (λ a. a.status ≡ Status.Done → IsAtEnd (S.left source.new)) }
     ensures fault { IsErrOf result NoAnswer.ReadFault →
         Rose (S.faults source.old) (S.faults source.new) }
     ensures kept { OnOk result (S.faults source.new ≡ S.faults source.old) }
@@ -47,7 +54,7 @@ fn answer_to<S: Source>(alloc: Global, task: Task, source: &mut S) -> Result<Ans
         S.faults source.new ≡ S.faults source.old }
 {
     match read_all(alloc, source, LONGEST) {
-        Ok(input) => Ok(judged(alloc, task, &input)?),
+        Ok(input) => Ok(judged(alloc, order, &input)?),
         Err(ReadStop::Long) => Ok(refused(alloc, 0, "TextLong")?),
         Err(ReadStop::Fault) => Err(NoAnswer::ReadFault),
         Err(ReadStop::Memory) => Err(NoAnswer::Memory),
@@ -68,25 +75,64 @@ fn written<T: Sink>(sink: &mut T, answer: &Answer) -> Status
     }
 }
 
+/// The run of a sample.
+fn run_sample<T: Sink>(alloc: Global, order: Order, sink: &mut T) -> Status
+    requires { IsInRange order }
+    ensures due { MeetsDue (IsSampleDue order) result (T.taken sink.old) (T.taken sink.new) }
+    ensures settled { result ≡ Status.Done → HasShown order (T.taken sink.old) (T.taken sink.new) }
+    ensures no_usage { result ≢ Status.Usage }
+    ensures not_rejected { result ≢ Status.Rejected }
+    ensures no_read_fault { result ≢ Status.ReadFault }
+    ensures write_fault { result ≡ Status.WriteFault → Rose (T.faults sink.old) (T.faults sink.new) }
+    ensures writes_count { result ≢ Status.WriteFault → T.faults sink.new ≡ T.faults sink.old }
+{
+    match sampled(alloc, order) {
+        Ok(sample) => written(sink, &sample),
+        Err(Memory) => Status::Memory,
+    }
+}
+
+/// The run of words that aren't taken.
+fn run_usage<T: Sink>(alloc: Global, sink: &mut T) -> Status
+    ensures due { Meets usage_due result (T.taken sink.old) (T.taken sink.new) }
+    ensures no_read_fault { result ≢ Status.ReadFault }
+    ensures not_rejected { result ≢ Status.Rejected }
+    ensures write_fault { result ≡ Status.WriteFault → Rose (T.faults sink.old) (T.faults sink.new) }
+    ensures writes_count { result ≢ Status.WriteFault → T.faults sink.new ≡ T.faults sink.old }
+{
+    match usage(alloc) {
+        Ok(usage) => written(sink, &usage),
+        Err(Memory) => Status::Memory,
+    }
+}
+
 /// Runs the program: reads all that the source gives, writes what is due for it, and answers how it ended.
 ///
-/// The words are one word, a task: `check` says whether the certificate behind a program holds; `write` writes a program's
-/// canonical text; `solve` decides a program, which for now it does where the program isn't convex, or has no marks and no point. Other words are answered
-/// by the usage line, and nothing is read then. The whole text is built before its first byte is written.
+/// The words are a task with its options: `check` says whether the certificate behind a program holds; `write` writes a program's
+/// canonical text; `solve` decides a program, with `--bases` strict steps and `--boxes` branches at most; `sample` makes the program of
+/// `--kind` and `--number` and decides it, and reads nothing. Other words are answered by the usage line, and nothing is read then. The
+/// whole text is built before its first byte is written.
 pub fn run<S: Source, T: Sink>(
     alloc: Global,
     words: &[String],
     source: &mut S,
     sink: &mut T,
 ) -> Status
-    ensures words { task_of words.now ≡ None →
+    ensures words { ordered_by words.now ≡ None →
         Meets usage_due result (T.taken sink.old) (T.taken sink.new) }
-    ensures unread { task_of words.now ≡ None → (source.new ≡ source.old) × (result ≢ Status.ReadFault) }
-    ensures usage { result ≡ Status.Usage → task_of words.now ≡ None }
-    ensures due { (task : Task) → task_of words.now ≡ Some task →
-        IfSome (S.left source.old) (λ input. MeetsDue (IsDue task input) result (T.taken sink.old) (T.taken sink.new)) }
-    ensures settled { (task : Task) → task_of words.now ≡ Some task → result ≡ Status.Done →
-        IfSome (S.left source.old) (λ input. HasSettled task input (T.taken sink.old) (T.taken sink.new)) }
+    ensures usage { result ≡ Status.Usage → ordered_by words.now ≡ None }
+    ensures unread { ordered_by words.now ≡ None → (source.new ≡ source.old) × (result ≢ Status.ReadFault) }
+    ensures due { (order : Order) → ordered_by words.now ≡ Some order → IsReading order →
+        IfSome (S.left source.old) (λ input. MeetsDue (IsDue order input) result (T.taken sink.old) (T.taken sink.new)) }
+    ensures settled { (order : Order) → ordered_by words.now ≡ Some order → IsReading order → result ≡ Status.Done →
+        IfSome (S.left source.old) (λ input. HasSettled order.task input (T.taken sink.old) (T.taken sink.new)) }
+    ensures read_to_its_end { (order : Order) → ordered_by words.now ≡ Some order → IsReading order → result ≡ Status.Done →
+        IsAtEnd (S.left source.new) }
+    ensures sample { (order : Order) → ordered_by words.now ≡ Some order → order.task ≡ Task.Sample →
+        (source.new ≡ source.old) × (result ≢ Status.ReadFault) × MeetsDue (IsSampleDue order) result (T.taken sink.old) (T.taken sink.new) }
+    ensures sampled { (order : Order) → ordered_by words.now ≡ Some order → order.task ≡ Task.Sample → result ≡ Status.Done →
+        HasShown order (T.taken sink.old) (T.taken sink.new) }
+    ensures rejected { (order : Order) → ordered_by words.now ≡ Some order → result ≡ Status.Rejected → order.task ≡ Task.Check }
     ensures read_fault { result ≡ Status.ReadFault →
         Rose (S.faults source.old) (S.faults source.new) }
     ensures nothing_taken { result ≡ Status.ReadFault → Keeps (T.taken sink.old) (T.taken sink.new) }
@@ -94,13 +140,15 @@ pub fn run<S: Source, T: Sink>(
     ensures reads_count { result ≢ Status.ReadFault → S.faults source.new ≡ S.faults source.old }
     ensures writes_count { result ≢ Status.WriteFault → T.faults sink.new ≡ T.faults sink.old }
 {
-    let Some(task) = task_of(words) else {
-        return match usage(alloc) {
-            Ok(usage) => written(sink, &usage),
-            Err(Memory) => Status::Memory,
-        };
+    let order = match order_of(alloc, words) {
+        Ok(Some(order)) => order,
+        Ok(None) => return run_usage(alloc, sink),
+        Err(_) => return Status::Memory,
     };
-    match answer_to(alloc, task, source) {
+    if let Task::Sample = order.task {
+        return run_sample(alloc, order, sink);
+    }
+    match answer_to(alloc, order, source) {
         Ok(answer) => written(sink, &answer),
         Err(NoAnswer::ReadFault) => Status::ReadFault,
         Err(NoAnswer::Memory) => Status::Memory,

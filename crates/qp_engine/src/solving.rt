@@ -1,134 +1,123 @@
 //! How a program is decided, and what is written for it.
 
-ghost use Rattle.std.specs.Prelude.{◌≡◌, ◌≢◌, ◌<◌, ◌∷◌, [], IfOk, true, false};
+ghost use Rattle.std.specs.Prelude.{◌≡◌, ◌≢◌, ◌≤◌, IfOk};
 ghost use Rattle.certificate_law.specs.Good.{IsGood};
-ghost use Rattle.certificate_law.specs.Nodes.{IsOneTree};
-ghost use Rattle.certificate_law.specs.declared.Certificate.TheVariants.{Infeasible};
-ghost use Rattle.check_law.specs.Check.{checked, answer};
 ghost use Rattle.cert_text.specs.Writable.{IsWritable};
-ghost use Rattle.qp_engine.specs.Due.{found_due, IsSolveDue};
-ghost use Rattle.qp_engine.specs.Outcomes.{IsConvex, IsMarked, IsSearched};
-ghost use Rattle.qp_engine.specs.Runs.{HasSolved};
+ghost use Rattle.check_law.specs.Check.{answer, checked};
+ghost use Rattle.branching.specs.Stops.{IsStopOf};
+ghost use Rattle.qp_engine.specs.Solving.{told_by, IsFoundDue, IsSolveDue, IsStopDue};
+ghost use Rattle.qp_engine.specs.Runs.{HasSolved, IsVerdict};
 
-use crate::answers::{Answer, refused};
+use crate::answers::Answer;
+use crate::paths::path_text;
+use crate::showing::show_numbers;
 use crate::status::Status;
-use crate::withheld::{bases_text, past_text};
+use crate::withheld::{bases_text, boxes_text, check_text, past_text};
+use branching::{DecideStop, Limits, decide};
 use cert_check::check;
 use cert_text::write_certificate;
-use certificate_law::{Certificate, Node, Tree};
+use certificate_law::Certificate;
 use check_law::{Checked, good_fails_no_test};
-use convexity::{Curvature, squares};
-use exact_matrix::Stop;
-use frac_core::Memory;
-use program_model::{Program, Region};
-use quad_solve::{AnyPoint, RelaxStop, Site, any_point};
+use frac_core::{Memory, Refused};
+use program_model::Program;
+use qp_words::Order;
 use std::alloc::Global;
 
-/// How many strict steps a chain may take.
-const BASES: u64 = 100000;
+/// The budgets of an order.
+pub(crate) fn limits_of(order: Order) -> Limits
+    ensures bases { result.bases ≡ order.bases }
+    ensures boxes { result.boxes ≡ order.boxes }
+{
+    Limits {
+        bases: order.bases,
+        boxes: order.boxes,
+    }
+}
 
-/// The answer that is a found certificate, which is checked before it is printed.
-fn found(alloc: Global, program: &Program, certificate: &Certificate) -> Result<Answer, Memory>
+/// What the check of a good certificate withholds its verdict for; None where it is accepted.
+pub(crate) fn check_withheld(
+    alloc: Global,
+    program: &Program,
+    certificate: &Certificate,
+) -> Result<Option<Refused>, Memory>
     requires fits { IsWritable program.now certificate.now }
     requires good { IsGood program.now certificate.now }
-    ensures due { IfOk result (λ a. a ≡ found_due program.now certificate.now (answer (checked program.now certificate.now))) }
-    ensures holds { IfOk result (λ a. a.status ≡ Status.Done → HasSolved program.now a.text) }
-    ensures no_usage { IfOk result (λ a. a.status ≢ Status.Usage) }
+    ensures { IfOk result (λ refused. answer (checked program.now certificate.now) ≡ told_by refused) }
 {
     good_fails_no_test();
     let _rows = program.rows();
     match check(alloc, program, certificate)? {
-        Checked::Accepted => {
-            let mut text = Vec::new(alloc);
-            write_certificate(program, certificate, &mut text)?;
-            Ok(Answer::of(Status::Done, text))
-        }
-        Checked::Past(refused) => {
-            let mut text = past_text(alloc, &Site::Check, refused)?;
-            write_certificate(program, certificate, &mut text)?;
-            Ok(Answer::of(Status::Withheld, text))
-        }
+        Checked::Accepted => Ok(None),
+        Checked::Past(refused) => Ok(Some(refused)),
         Checked::Rejected { .. } => unreachable!(),
     }
 }
 
-/// The certificate that a program has no point, by one leaf.
-fn by_leaf(alloc: Global, leaf: Node) -> Result<Certificate, Memory>
-    requires { IsOneTree (leaf ∷ []) }
-    ensures { IfOk result (λ c. c ≡ Infeasible (leaf ∷ [])) }
-{
-    let mut builder = Tree::start(alloc);
-    builder.put(leaf)?;
-    match builder.finish() {
-        Ok(tree) => Ok(Certificate::Infeasible(tree)),
-        Err(_) => unreachable!(),
-    }
-}
-
-/// Whether some column is marked.
-fn is_marked(p: &Program) -> bool
-    ensures some { result ≡ true → IsMarked p.now }
-    ensures none { result ≡ false → ¬ (IsMarked p.now) }
-{
-    for j in 0..p.columns() {
-        if p.column(j).whole {
-            return true;
-        }
-    }
-    false
-}
-
-/// The answer to a convex program without marks, whose ENDATA stands in a line, by feasibility.
-fn searched(alloc: Global, program: &Program, line: u32) -> Result<Answer, Memory>
-    requires { IsSearched program.now }
-    ensures due { IfOk result (IsSolveDue program.now line) }
+/// The answer that is a found certificate. It is checked before it is written; where the check is withheld, its text follows.
+#[tactic(auto, using(crate::proofs::Solved::solved_by))]
+fn found(alloc: Global, program: &Program, certificate: &Certificate) -> Result<Answer, Memory>
+    requires fits { IsWritable program.now certificate.now }
+    requires good { IsGood program.now certificate.now }
+    ensures due { IfOk result (IsFoundDue program.now certificate.now) }
     ensures holds { IfOk result (λ a. a.status ≡ Status.Done → HasSolved program.now a.text) }
-    ensures no_usage { IfOk result (λ a. a.status ≢ Status.Usage) }
+    ensures verdict { IfOk result (λ a. IsVerdict a.status) }
 {
-    let region = Region::of(alloc, program)?;
-    match any_point(alloc, program, &region, BASES) {
-        Ok(AnyPoint::Crossed(j)) => found(alloc, program, &by_leaf(alloc, Node::Cross(j))?),
-        Ok(AnyPoint::Empty(y)) => found(alloc, program, &by_leaf(alloc, Node::Farkas(y))?),
-        Ok(AnyPoint::Point(_)) => refused(alloc, line as usize, "NotYet"),
-        Err(RelaxStop::Spent(site)) => {
-            let text = bases_text(alloc, BASES, &site)?;
+    match check_withheld(alloc, program, certificate)? {
+        None => {
+            let mut text = Vec::new(alloc);
+            write_certificate(program, certificate, &mut text)?;
+            Ok(Answer::of(Status::Done, text))
+        }
+        Some(refused) => {
+            let mut text = check_text(alloc, refused)?;
+            write_certificate(program, certificate, &mut text)?;
             Ok(Answer::of(Status::Withheld, text))
         }
-        Err(RelaxStop::Past(site, refused)) => {
-            let text = past_text(alloc, &site, refused)?;
-            Ok(Answer::of(Status::Withheld, text))
-        }
-        Err(RelaxStop::Memory) => Err(Memory),
     }
 }
 
-/// The answer to a convex program, whose ENDATA stands in a line.
-fn convex(alloc: Global, program: &Program, line: u32) -> Result<Answer, Memory>
-    requires { IsConvex program.now }
-    ensures due { IfOk result (IsSolveDue program.now line) }
-    ensures holds { IfOk result (λ a. a.status ≡ Status.Done → HasSolved program.now a.text) }
-    ensures no_usage { IfOk result (λ a. a.status ≢ Status.Usage) }
+/// The answer to a program of which no certificate is found within the budgets.
+pub(crate) fn stopped(
+    alloc: Global,
+    program: &Program,
+    limits: Limits,
+    stop: DecideStop,
+) -> Result<Answer, Memory>
+    requires { IsStopOf program.now limits.bases limits.boxes stop }
+    ensures due { IfOk result (IsStopDue program.now limits.bases stop) }
+    ensures withheld { IfOk result (λ a. a.status ≡ Status.Withheld) }
 {
-    if is_marked(program) {
-        refused(alloc, line as usize, "NotYet")
-    } else {
-        searched(alloc, program, line)
+    match stop {
+        DecideStop::Bases(path, site) => {
+            let lines = path_text(alloc, program, &path)?;
+            let text = bases_text(alloc, limits.bases, &lines, &site)?;
+            Ok(Answer::of(Status::Withheld, text))
+        }
+        DecideStop::Past(path, site, refused) => {
+            let lines = path_text(alloc, program, &path)?;
+            let text = past_text(alloc, &lines, &site, refused)?;
+            Ok(Answer::of(Status::Withheld, text))
+        }
+        DecideStop::Boxes(boxes) => {
+            let text = boxes_text(alloc, boxes)?;
+            Ok(Answer::of(Status::Withheld, text))
+        }
+        DecideStop::Memory => Err(Memory),
     }
 }
 
-/// The answer to a program, whose ENDATA stands in a line.
-pub(crate) fn decided(alloc: Global, program: &Program, line: u32) -> Result<Answer, Memory>
-    ensures due { IfOk result (IsSolveDue program.now line) }
+/// The answer to a program that is to be decided within budgets.
+pub(crate) fn solved(alloc: Global, program: &Program, limits: Limits) -> Result<Answer, Memory>
+    requires { limits.boxes ≤ 20000 }
+    ensures due { IfOk result (IsSolveDue program.now limits.bases limits.boxes) }
     ensures holds { IfOk result (λ a. a.status ≡ Status.Done → HasSolved program.now a.text) }
-    ensures no_usage { IfOk result (λ a. a.status ≢ Status.Usage) }
+    ensures verdict { IfOk result (λ a. IsVerdict a.status) }
 {
-    match squares(alloc, program) {
-        Ok(Curvature::Negative(vector)) => found(alloc, program, &Certificate::NotConvex(vector)),
-        Ok(Curvature::Squares(_)) => convex(alloc, program, line),
-        Err(Stop::Past(past)) => {
-            let text = past_text(alloc, &Site::Squares, past)?;
-            Ok(Answer::of(Status::Withheld, text))
+    match decide(alloc, program, limits) {
+        Ok(certificate) => {
+            show_numbers(program, &certificate);
+            found(alloc, program, &certificate)
         }
-        Err(Stop::Memory) => Err(Memory),
+        Err(stop) => stopped(alloc, program, limits, stop),
     }
 }
