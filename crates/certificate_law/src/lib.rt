@@ -116,6 +116,3 @@ pub fn ray_leads_below()
 pub fn good_certificates_are_true()
     ensures { (p : Program) (c : Certificate) → IsGood p c → IsTrueOf p (verdict_of c) }
 {}
-
-#[cfg(test)]
-mod tests;

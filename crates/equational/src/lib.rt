@@ -11,8 +11,6 @@ mod lists;
 mod objective;
 mod quadratic;
 mod rows;
-#[cfg(test)]
-mod tests;
 
 pub use calculation::form;
 pub use kept::Form;

@@ -15,6 +15,3 @@ pub use laws::{
 };
 pub use matrix::Matrix;
 pub use systems::{Solved, Stop, invert, solve};
-
-#[cfg(test)]
-mod tests;

@@ -4,6 +4,3 @@
 mod kinds;
 
 pub use kinds::FaultKind;
-
-#[cfg(test)]
-mod tests;

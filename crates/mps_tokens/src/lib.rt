@@ -26,6 +26,3 @@ pub use words::{
     BoundKind, CertificateWord, RowKind, Section, bound_kind_of, certificate_word_of, row_kind_of,
     section_of,
 };
-
-#[cfg(test)]
-mod tests;

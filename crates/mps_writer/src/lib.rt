@@ -15,6 +15,3 @@ mod writing;
 
 pub use laws::{numbers_are_read_back, text_is_read_back};
 pub use writing::write;
-
-#[cfg(test)]
-mod tests;

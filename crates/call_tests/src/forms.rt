@@ -1,0 +1,91 @@
+// The form of a small program, part by part, and the first operation that is past.
+
+use crate::texts::{FIRST, LARGE_COSTS, program_of};
+use equational::{Form, form};
+use exact_matrix::{Matrix, Stop};
+use frac_core::{Frac, Op, Refused, Vector};
+use program_model::{Program, Region};
+use std::alloc::Global;
+use std::test::Fail;
+
+const MAX: i128 = i128::MAX;
+
+// The form of a program in the region of its bounds.
+fn formed(alloc: Global, p: &Program) -> Result<Form, Stop> {
+    let region = Region::of(alloc, p)?;
+    if region.crossed().is_some() || region.len() != p.columns() as usize {
+        return Err(Stop::Memory);
+    }
+    form(alloc, p, &region)
+}
+
+fn is_vector(v: &Vector<Frac>, numbers: &[i128]) -> bool {
+    if v.len() != numbers.len() {
+        return false;
+    }
+    for i in 0..numbers.len() {
+        if v.at(i).num() != numbers[i] || v.at(i).den() != 1 {
+            return false;
+        }
+    }
+    true
+}
+
+fn is_row_of(m: &Matrix<Frac>, i: usize, numbers: &[i128]) -> bool {
+    if i >= m.rows() || m.columns() != numbers.len() {
+        return false;
+    }
+    let row = m.row(i);
+    for j in 0..row.len() {
+        if j >= numbers.len() || row[j].num() != numbers[j] || row[j].den() != 1 {
+            return false;
+        }
+    }
+    true
+}
+
+// Whether a point, a ray and multipliers of threes go back to threes.
+fn go_back(alloc: Global, f: &Form) -> Result<bool, Fail> {
+    let z = Vector::filled(alloc, f.cost().len(), Frac::whole(3))?;
+    let y = Vector::filled(alloc, f.right().len(), Frac::whole(3))?;
+    let multipliers = f.multipliers_back(alloc, &y)?;
+    let Ok(point) = f.point_back(alloc, &z) else {
+        return Ok(false);
+    };
+    let Ok(ray) = f.ray_back(alloc, &z) else {
+        return Ok(false);
+    };
+    Ok(is_vector(&point, &[3, 3]) && is_vector(&ray, &[3, 3]) && is_vector(&multipliers, &[3, 3]))
+}
+
+#[test]
+fn a_form(rt: HostRuntime) -> Result<(), Fail> {
+    let p = program_of(rt.alloc(), FIRST)?;
+    let f = match formed(rt.alloc(), &p) {
+        Ok(f) => f,
+        Err(_) => return Err(Fail::new("no form")),
+    };
+    assert!(rt; f.matrix().rows() == 3);
+    assert!(rt; is_row_of(f.matrix(), 0, &[1, 1, 1, 0, 0]));
+    assert!(rt; is_row_of(f.matrix(), 1, &[-1, 2, 0, 1, 0]));
+    assert!(rt; is_row_of(f.matrix(), 2, &[0, 1, 0, 0, 1]));
+    assert!(rt; is_vector(f.right(), &[7, 4, 4]));
+    assert!(rt; f.quadratic().rows() == 5);
+    assert!(rt; is_row_of(f.quadratic(), 1, &[0, 8, 0, 0, 0]));
+    assert!(rt; is_vector(f.cost(), &[0, -32, 0, 0, 0]));
+    assert!(rt; f.constant().num() == 64);
+    assert!(rt; go_back(rt.alloc(), &f)?);
+    Ok(())
+}
+
+#[test]
+fn a_sum_past_the_greatest(rt: HostRuntime) -> Result<(), Fail> {
+    let p = program_of(rt.alloc(), LARGE_COSTS)?;
+    let refused = match formed(rt.alloc(), &p) {
+        Err(Stop::Past(refused)) => refused,
+        _ => return Err(Fail::new("nothing is past")),
+    };
+    assert!(rt; matches!(refused.op, Op::Add));
+    assert!(rt; refused.left.num() == MAX && refused.right.num() == MAX);
+    Ok(())
+}

@@ -1,0 +1,180 @@
+// Verdicts on larger programs, whose texts are made by lines that repeat.
+
+use crate::runs::{decides, decides_so};
+use std::alloc::Global;
+use std::test::Fail;
+
+// A line for each number from 1 to `count`: the pattern with the number in the place of `#`, and the next one, after the last
+// the first again, in the place of `@`.
+fn lines(alloc: Global, count: u64, pattern: &str) -> Result<String, Fail> {
+    let mut text = String::new(alloc);
+    for k in 0..count {
+        let number = format!(in alloc; "{}", k + 1)?;
+        let next = format!(in alloc; "{}", (k + 1) % count + 1)?;
+        let line = pattern.replace(alloc, "#", &number)?;
+        text.push_str(&line.replace(alloc, "@", &next)?)?;
+    }
+    Ok(text)
+}
+
+// Whole lines, and between them lines that repeat.
+fn repeated(alloc: Global, count: u64, parts: &[(&str, &str)]) -> Result<String, Fail> {
+    let mut text = String::new(alloc);
+    for (pattern, line) in parts {
+        text.push_str(&lines(alloc, count, pattern)?)?;
+        text.push_str(line)?;
+    }
+    Ok(text)
+}
+
+#[test]
+fn twenty_rows_with_a_best_point(rt: HostRuntime) -> Result<(), Fail> {
+    let alloc = rt.alloc();
+    let program = repeated(
+        alloc,
+        20,
+        &[
+            ("", "ROWS\n N obj\n"),
+            (" G r#\n", "COLUMNS\n"),
+            (" x# r# 1\n", "RHS\n"),
+            (" R r# #\n", "QUADOBJ\n"),
+            (" x# x# 1\n", "ENDATA\n"),
+        ],
+    )?;
+    let certificate = repeated(
+        alloc,
+        20,
+        &[
+            ("", "OPTIMAL\nVALUE 1435\n"),
+            ("POINT x# #\n", ""),
+            ("SQUARE 1\nCOEF x# 1\n", "BOUND\n"),
+            ("W x# #\n", ""),
+            ("Y r# #\n", "END\n"),
+        ],
+    )?;
+    assert!(rt; decides(alloc, program.as_bytes(), certificate.as_bytes())?);
+    Ok(())
+}
+
+// Each column is above the next by 1, and the last above the first.
+#[test]
+fn twenty_rows_without_a_point(rt: HostRuntime) -> Result<(), Fail> {
+    let alloc = rt.alloc();
+    let program = repeated(
+        alloc,
+        20,
+        &[
+            ("", "ROWS\n N obj\n"),
+            (" G r#\n", "COLUMNS\n"),
+            (" x# obj 1 r# 1\n", ""),
+            (" x@ r# -1\n", "RHS\n"),
+            (" R r# 1\n", "ENDATA\n"),
+        ],
+    )?;
+    let certificate = repeated(
+        alloc,
+        20,
+        &[("", "INFEASIBLE\nFARKAS\n"), ("Y r# 1\n", "END\n")],
+    )?;
+    assert!(rt; decides(alloc, program.as_bytes(), certificate.as_bytes())?);
+    Ok(())
+}
+
+// No column is above the next, nor the last above the first, so all rise together.
+#[test]
+fn twenty_rows_without_a_bound(rt: HostRuntime) -> Result<(), Fail> {
+    let alloc = rt.alloc();
+    let program = repeated(
+        alloc,
+        20,
+        &[
+            ("", "ROWS\n N obj\n"),
+            (" L r#\n", "COLUMNS\n"),
+            (" x# obj -1 r# 1\n", ""),
+            (" x@ r# -1\n", "ENDATA\n"),
+        ],
+    )?;
+    let certificate = repeated(
+        alloc,
+        20,
+        &[("", "UNBOUNDED\n"), ("RAY x# 1/20\n", "END\n")],
+    )?;
+    assert!(rt; decides(alloc, program.as_bytes(), certificate.as_bytes())?);
+    Ok(())
+}
+
+// The squares of the first columns take away all of the square of the column before the last.
+#[test]
+fn twenty_columns_that_are_not_convex(rt: HostRuntime) -> Result<(), Fail> {
+    let alloc = rt.alloc();
+    let program = repeated(
+        alloc,
+        18,
+        &[
+            ("", "ROWS\n N obj\nCOLUMNS\n"),
+            (" x# obj 1\n", " x19 obj 1\n x20 obj 1\nQUADOBJ\n"),
+            (" x# x# 2 x19 2\n", " x19 x19 36 x20 1\nENDATA\n"),
+        ],
+    )?;
+    let certificate = repeated(
+        alloc,
+        18,
+        &[
+            ("", "NOTCONVEX\n"),
+            ("VECTOR x# -1\n", "VECTOR x19 1\nVECTOR x20 -1\nEND\n"),
+        ],
+    )?;
+    assert!(rt; decides(alloc, program.as_bytes(), certificate.as_bytes())?);
+    Ok(())
+}
+
+#[test]
+fn as_many_rows_and_columns_as_there_may_be(rt: HostRuntime) -> Result<(), Fail> {
+    let alloc = rt.alloc();
+    let program = repeated(
+        alloc,
+        128,
+        &[
+            ("", "ROWS\n N obj\n"),
+            (" L r#\n", "COLUMNS\n"),
+            (" x# obj -1 r# 1\n", "RHS\n"),
+            (" R r# #\n", "ENDATA\n"),
+        ],
+    )?;
+    let certificate = repeated(
+        alloc,
+        128,
+        &[
+            ("", "OPTIMAL\nVALUE -8256\n"),
+            ("POINT x# #\n", "BOUND\n"),
+            ("W x# #\n", ""),
+            ("Y r# -1\n", "END\n"),
+        ],
+    )?;
+    assert!(rt; decides(alloc, program.as_bytes(), certificate.as_bytes())?);
+    Ok(())
+}
+
+// A choice of 40 things by their worth and their room. The best worth was calculated apart, room by room.
+#[test]
+fn forty_marked_columns(rt: HostRuntime) -> Result<(), Fail> {
+    let alloc = rt.alloc();
+    let mut program = String::from_str(
+        alloc,
+        "ROWS\n N obj\n L room\nCOLUMNS\n M 'MARKER' 'INTORG'\n",
+    )?;
+    for k in 1..41u64 {
+        let line = format!(in alloc; " x{k} obj -{} room {}\n", 1 + 5 * k % 27, 1 + 7 * k % 19)?;
+        program.push_str(&line)?;
+    }
+    program.push_str(&repeated(
+        alloc,
+        40,
+        &[
+            ("", "RHS\n R room 201\nBOUNDS\n"),
+            (" UP B x# 1\n", "ENDATA\n"),
+        ],
+    )?)?;
+    assert!(rt; decides_so(alloc, program.as_bytes(), "OPTIMAL\nVALUE -407\n")?);
+    Ok(())
+}
