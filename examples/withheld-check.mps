@@ -1,0 +1,15 @@
+* the least value is 2^127 - 1, but the check of the leaf adds 2^127 - 1 twice before it takes one away
+ROWS
+ N cost
+ G r1
+ G r2
+ L r3
+COLUMNS
+ x cost 1 r1 1
+ z cost -1 r3 1
+ y cost 1 r2 1
+RHS
+ RHS r1 170141183460469231731687303715884105727
+ RHS r2 170141183460469231731687303715884105727
+ RHS r3 170141183460469231731687303715884105727
+ENDATA
