@@ -1,5 +1,5 @@
 -- What is always enough to decide a program.
-use Rattle.std.proofs.Common.{ℕ, ◌+◌, ◌≤◌, arith, inl, inr, Err}
+use Rattle.std.proofs.Common.{◌⊎◌, ℕ, ◌+◌, ◌≤◌, arith, inl, inr, Err}
 use Rattle.std.proofs.lemmas.List.Elements.{All-contains}
 use Rattle.frac_core.specs.Operations.{IsWithin}
 use Rattle.frac_core.specs.Parts.{max_part}
@@ -13,9 +13,11 @@ use Rattle.branching_law.proofs.SearchEnds.{never_used_up}
 use Rattle.branching.specs.Stops.{IsStopOf}
 use Rattle.branching.specs.declared.stops.DecideStop.{DecideStop}
 use Rattle.branching.specs.declared.stops.DecideStop.TheVariants.{Memory, Bases, Boxes, Past}
+use Rattle.qp_words.specs.declared.order.Order.{Order}
 use Rattle.qp_engine.specs.Said.{Said}
+use Rattle.qp_engine.specs.Sampling.{sample, IsSampled, IsSampleDue}
 use Rattle.qp_engine.specs.Enough.{AreManyBases, AreManyBoxes, HasRoom}
-use Rattle.qp_engine.specs.Solving.{IsSolved, IsSolveDue, IsStopDue}
+use Rattle.qp_engine.specs.Solving.{IsSolved, IsSolveDue, IsStopDue, IsWithheld}
 
 clash : (b n : ℕ) → b + 2 ≤ n → n ≤ b → ⊥
 clash b n h k = omega (arith, h, k)
@@ -34,3 +36,14 @@ module _ (p : Program) (bases boxes : ℕ) (is : IsProgram p) (room : HasRoom p 
   pub decided : (s : Said) → IsSolveDue p bases boxes s → IsSolved p bases boxes s
   decided s (inl solved) = solved
   decided s (inr held) = absurd (nothing_stops held.stop s held.stops held.due)
+
+  pub not_withheld : (s : Said) → IsWithheld p bases boxes s → ⊥
+  not_withheld s held = nothing_stops held.stop s held.stops held.due
+
+sampled_by : (order : Order) (s : Said) → HasRoom (sample order) order.bases → AreManyBases (sample order) order.bases → AreManyBoxes (sample order) order.boxes → IsProgram (sample order)
+    → IsSampled order s ⊎ IsWithheld (sample order) order.bases order.boxes s → IsSampled order s
+sampled_by order s room many_bases many_boxes is (inl sampled) = sampled
+sampled_by order s room many_bases many_boxes is (inr held) = absurd (not_withheld (sample order) order.bases order.boxes is room many_bases many_boxes s held)
+
+pub sampled : (order : Order) (s : Said) → HasRoom (sample order) order.bases → AreManyBases (sample order) order.bases → AreManyBoxes (sample order) order.boxes → IsSampleDue order s → IsSampled order s
+sampled order s room many_bases many_boxes due = sampled_by order s room many_bases many_boxes due.0 due.1

@@ -1,9 +1,9 @@
 -- What is written of a sample is due.
-use Rattle.std.proofs.Common.{◌≡◌, inl, ℕ, List, refl, sym, ap, ◌∙◌, subst}
+use Rattle.std.proofs.Common.{◌≡◌, inl, inr, ℕ, List, refl, sym, ap, ◌∙◌, subst}
 use Rattle.rational.specs.Rational.{ℚ}
 use Rattle.frac_core.specs.declared.fractions.Refused.{Refused}
 use Rattle.program_law.specs.declared.Square.{Square}
-use Rattle.program_law.specs.Program.{Program}
+use Rattle.program_law.specs.Program.{Program, IsProgram}
 use Rattle.program_law.specs.Verdict.{Verdict, IsTrueOf, IsOptimal}
 use Rattle.certificate_law.specs.declared.Node.{Node}
 use Rattle.certificate_law.specs.declared.Certificate.{Certificate}
@@ -13,9 +13,12 @@ use Rattle.certificate_law.proofs.Verdicts.{good_is_true}
 use Rattle.check_law.specs.Check.{checked, answer}
 use Rattle.check_law.specs.declared.Checked.TheVariants.{Accepted, Past}
 use Rattle.branching.specs.Decided.{IsFound}
+use Rattle.branching.specs.Stops.{IsStopOf}
+use Rattle.branching.specs.declared.stops.DecideStop.{DecideStop}
 use Rattle.sample_make.specs.Samples.{sample_of, IsOptimalVerdict}
 use Rattle.qp_words.specs.declared.order.Order.{Order}
 use Rattle.qp_engine.specs.Said.{Said, said}
+use Rattle.qp_engine.specs.Solving.{IsStopDue}
 use Rattle.qp_engine.specs.Sampling.{sample, sample_text, HasSampled, IsSampleDue, IsShownBy, IsShownDue}
 use Rattle.qp_engine.specs.Withheld.{check_text}
 use Rattle.qp_engine.specs.declared.status.Status.TheVariants as status
@@ -52,10 +55,24 @@ pub tells_least : (order : Order) (p : Program) (x : List ℚ) (v : ℚ) (text :
     → HasSampled order s.text
 tells_least order p x v text s e best w h = record { value = v; optimal = (x, best); prints = ap (λ (s : Said). s.text) h ∙ w ∙ ap (λ p. sample_text order p v) e }
 
-pub sample_is_due : (order : Order) (p : Program) (bases boxes : ℕ) (c : Certificate) (s : Said) → p ≡ sample order → bases ≡ order.bases → boxes ≡ order.boxes → IsFound p bases boxes c → IsShownDue order c s
-    → IsSampleDue order s
-sample_is_due order p bases boxes c s e same_bases same_boxes found due = inl (record {
-  certificate = c;
-  found = subst (λ p. IsFound p order.bases order.boxes c) e (subst (λ (n : ℕ). IsFound p order.bases n c) same_boxes (subst (λ (n : ℕ). IsFound p n boxes c) same_bases found));
-  due = due;
-})
+pub sample_is_due : (order : Order) (p : Program) (bases boxes : ℕ) (c : Certificate) (s : Said) → p ≡ sample order → bases ≡ order.bases → boxes ≡ order.boxes → IsProgram p → IsFound p bases boxes c
+    → IsShownDue order c s → IsSampleDue order s
+sample_is_due order p bases boxes c s e same_bases same_boxes is found due = (
+  subst IsProgram e is,
+  inl (record {
+    certificate = c;
+    found = subst (λ p. IsFound p order.bases order.boxes c) e (subst (λ (n : ℕ). IsFound p order.bases n c) same_boxes (subst (λ (n : ℕ). IsFound p n boxes c) same_bases found));
+    due = due;
+  }),
+)
+
+pub sample_stop_is_due : (order : Order) (p : Program) (bases boxes : ℕ) (stop : DecideStop) (s : Said) → p ≡ sample order → bases ≡ order.bases → boxes ≡ order.boxes → IsProgram p → IsStopOf p bases boxes stop
+    → IsStopDue p bases stop s → IsSampleDue order s
+sample_stop_is_due order p bases boxes stop s e same_bases same_boxes is stops due = (
+  subst IsProgram e is,
+  inr (record {
+    stop = stop;
+    stops = subst (λ p. IsStopOf p order.bases order.boxes stop) e (subst (λ (n : ℕ). IsStopOf p order.bases n stop) same_boxes (subst (λ (n : ℕ). IsStopOf p n boxes stop) same_bases stops));
+    due = subst (λ p. IsStopDue p order.bases stop s) e (subst (λ (n : ℕ). IsStopDue p n stop s) same_bases due);
+  }),
+)

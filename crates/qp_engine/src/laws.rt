@@ -10,6 +10,7 @@ ghost use Rattle.program_law.specs.Program.{IsProgram, Program};
 ghost use Rattle.qp_engine.specs.Due.{IsDue, answer_due, longest};
 ghost use Rattle.qp_engine.specs.Enough.{AreManyBases, AreManyBoxes, HasRoom};
 ghost use Rattle.qp_engine.specs.Said.{Said};
+ghost use Rattle.qp_engine.specs.Sampling.{IsSampleDue, IsSampled, sample};
 ghost use Rattle.qp_engine.specs.Solving.{IsReadable, IsSolved, IsSolveDue};
 ghost use Rattle.qp_engine.specs.declared.status.Status.TheVariants as statuses;
 ghost use Rattle.qp_words.specs.declared.order.Order.{Order};
@@ -41,4 +42,10 @@ pub fn solutions_are_accepted()
         EndsInLineFeed input → IsDue solve input solved → solved.status ≡ statuses.Done →
         length (input ++ solved.text) ≤ longest →
         IsDue check (input ++ solved.text) s ↔ (s ≡ answer_due Accepted) }
+{}
+
+/// A sample is decided, and nothing else is due, under the same premises on its own program.
+pub fn large_budgets_decide_a_sample()
+    ensures { (order : Order) (s : Said) → HasRoom (sample order) order.bases → AreManyBases (sample order) order.bases →
+        AreManyBoxes (sample order) order.boxes → IsSampleDue order s → IsSampled order s }
 {}

@@ -13,7 +13,8 @@ mod status;
 mod withheld;
 
 pub use laws::{
-    large_budgets_decide_a_program, solutions_are_accepted, written_certificates_are_accepted,
+    large_budgets_decide_a_program, large_budgets_decide_a_sample, solutions_are_accepted,
+    written_certificates_are_accepted,
 };
 pub use running::run;
 pub use status::Status;

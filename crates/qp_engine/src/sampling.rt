@@ -75,6 +75,7 @@ pub(crate) fn sampled(alloc: Global, order: Order) -> Result<Answer, Memory>
     ensures verdict { IfOk result (λ a. IsVerdict a.status) }
 {
     let program = sample_make::sample(alloc, order.kind, order.number)?;
+    let _columns = program.columns();
     let limits = limits_of(order);
     match decide(alloc, &program, limits) {
         Ok(certificate) => shown(alloc, order, &program, &certificate),

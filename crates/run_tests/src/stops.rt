@@ -191,11 +191,12 @@ fn branches_that_are_spent(rt: HostRuntime) -> Result<(), Fail> {
     Ok(())
 }
 
+// Without a bound below, so the search is for a point alone, which takes less time.
 #[test]
 fn the_largest_budget_of_branches(rt: HostRuntime) -> Result<(), Fail> {
     let alloc = rt.alloc();
     let program =
-        "ROWS\n N obj\n E c\nCOLUMNS\n M 'MARKER' 'INTORG'\n x obj 1 c 2\n y c -2\nRHS\n RHS c 1\nENDATA\n";
+        "ROWS\n N obj\n E c\nCOLUMNS\n M 'MARKER' 'INTORG'\n x obj -1 c 2\n y c -2\nRHS\n RHS c 1\nENDATA\n";
     assert!(rt;
         withholds(
             alloc,

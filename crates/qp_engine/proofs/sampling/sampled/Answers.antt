@@ -1,9 +1,14 @@
 use Rattle.std.proofs.lemmas.Result.{IfOk-weaker}
 use Rattle.qp_engine.specs.Sampling.{IsSampleDue}
-use Rattle.qp_engine.proofs.Shown.{sample_is_due}
+use Rattle.qp_engine.proofs.Shown.{sample_is_due, sample_stop_is_due}
 use Rattle.qp_engine.proofs.sampling.sampled.Goals as goal
 
 pub returns-in-Ok-clause-due : goal.returns-in-Ok-clause-due
 returns-in-Ok-clause-due c =
     IfOk-weaker c.shown.result _ (IsSampleDue c.args.order)
-    (λ a due. sample_is_due c.args.order _ _ _ _ a c.in_ok-program.ensures c.limits_of-limits.ensures.bases c.limits_of-limits.ensures.boxes c.in-Ok.ensures.found due) c.shown.ensures.due
+    (λ a due. sample_is_due c.args.order _ _ _ _ a c.in_ok-program.ensures c.limits_of-limits.ensures.bases c.limits_of-limits.ensures.boxes c.columns-columns.ensures.program c.in-Ok.ensures.found due) c.shown.ensures.due
+
+pub returns-clause-due : goal.returns-clause-due
+returns-clause-due c =
+    IfOk-weaker c.stopped.result _ (IsSampleDue c.args.order)
+    (λ a due. sample_stop_is_due c.args.order _ _ _ c.in-Err.stop a c.in_ok-program.ensures c.limits_of-limits.ensures.bases c.limits_of-limits.ensures.boxes c.columns-columns.ensures.program c.in-Err.ensures.stop due) c.stopped.ensures.due
