@@ -2,8 +2,8 @@ use Rattle.std.proofs.Common.{◌≡◌, ◌∙◌, ap, pos, arith, replicate, s
 use Rattle.std.specs.Int.{w128}
 use Rattle.std.proofs.lemmas.Int.{ints}
 use Rattle.rational.specs.Rational.{whole}
-use Rattle.call_tests.proofs.Equations.{two_equations}
-use Rattle.call_tests.proofs.chains.push_known.Goals as goal
+use Rattle.chain_tests.proofs.Equations.{two_equations}
+use Rattle.chain_tests.proofs.chains.push_known.Goals as goal
 
 pub feasible-requires-clause-problem : goal.feasible-requires-clause-problem
 feasible-requires-clause-problem c =

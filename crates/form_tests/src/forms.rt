@@ -58,23 +58,33 @@ fn go_back(alloc: Global, f: &Form) -> Result<bool, Fail> {
     Ok(is_vector(&point, &[3, 3]) && is_vector(&ray, &[3, 3]) && is_vector(&multipliers, &[3, 3]))
 }
 
+fn has_equations(f: &Form) -> bool {
+    f.matrix().rows() == 3
+        && is_row_of(f.matrix(), 0, &[1, 1, 1, 0, 0])
+        && is_row_of(f.matrix(), 1, &[-1, 2, 0, 1, 0])
+        && is_row_of(f.matrix(), 2, &[0, 1, 0, 0, 1])
+        && is_vector(f.right(), &[7, 4, 4])
+}
+
+fn has_costs(f: &Form) -> bool {
+    f.quadratic().rows() == 5
+        && is_row_of(f.quadratic(), 1, &[0, 8, 0, 0, 0])
+        && is_vector(f.cost(), &[0, -32, 0, 0, 0])
+        && f.constant().num() == 64
+}
+
+// Whether the form of a program is this one, part by part, and goes back.
+fn is_formed(alloc: Global, p: &Program) -> Result<bool, Fail> {
+    match formed(alloc, p) {
+        Ok(f) => Ok(has_equations(&f) && has_costs(&f) && go_back(alloc, &f)?),
+        Err(_) => Ok(false),
+    }
+}
+
 #[test]
 fn a_form(rt: HostRuntime) -> Result<(), Fail> {
     let p = program_of(rt.alloc(), FIRST)?;
-    let f = match formed(rt.alloc(), &p) {
-        Ok(f) => f,
-        Err(_) => return Err(Fail::new("no form")),
-    };
-    assert!(rt; f.matrix().rows() == 3);
-    assert!(rt; is_row_of(f.matrix(), 0, &[1, 1, 1, 0, 0]));
-    assert!(rt; is_row_of(f.matrix(), 1, &[-1, 2, 0, 1, 0]));
-    assert!(rt; is_row_of(f.matrix(), 2, &[0, 1, 0, 0, 1]));
-    assert!(rt; is_vector(f.right(), &[7, 4, 4]));
-    assert!(rt; f.quadratic().rows() == 5);
-    assert!(rt; is_row_of(f.quadratic(), 1, &[0, 8, 0, 0, 0]));
-    assert!(rt; is_vector(f.cost(), &[0, -32, 0, 0, 0]));
-    assert!(rt; f.constant().num() == 64);
-    assert!(rt; go_back(rt.alloc(), &f)?);
+    assert!(rt; is_formed(rt.alloc(), &p)?);
     Ok(())
 }
 

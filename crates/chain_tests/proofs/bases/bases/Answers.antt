@@ -1,6 +1,6 @@
 use Rattle.std.proofs.Common.{arith, sym, ◌∙◌}
-use Rattle.call_tests.proofs.Exchanges.{start_basis, start_pivot, next_basis, next_pivot}
-use Rattle.call_tests.proofs.bases.bases.Goals as goal
+use Rattle.chain_tests.proofs.Exchanges.{start_basis, start_pivot, next_basis, next_pivot}
+use Rattle.chain_tests.proofs.bases.bases.Goals as goal
 
 pub exchanged-requires-clause-basis : goal.exchanged-requires-clause-basis
 exchanged-requires-clause-basis c = start_basis c.args.m.now c.args.r.now c.requires.problem c.requires.rows c.in_ok-basis.basis c.in_ok-basis.ensures

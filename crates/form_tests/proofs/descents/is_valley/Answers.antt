@@ -1,6 +1,6 @@
 use Rattle.std.proofs.Common.{arith}
 use Rattle.face_descent.proofs.Valley.{told, valley_by}
-use Rattle.call_tests.proofs.descents.is_valley.Goals as goal
+use Rattle.form_tests.proofs.descents.is_valley.Goals as goal
 
 pub returns : goal.returns
 returns c costs =

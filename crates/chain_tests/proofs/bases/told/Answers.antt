@@ -2,8 +2,8 @@ use Rattle.std.proofs.Common.{◌≡◌, ◌∙◌, ◌*◌, length, ap, pos, ar
 use Rattle.std.specs.Int.{w128}
 use Rattle.std.proofs.lemmas.Int.{ints}
 use Rattle.rational.specs.Rational.{whole}
-use Rattle.call_tests.proofs.Equations.{two_equations}
-use Rattle.call_tests.proofs.bases.told.Goals as goal
+use Rattle.chain_tests.proofs.Equations.{two_equations}
+use Rattle.chain_tests.proofs.bases.told.Goals as goal
 
 pub bases-requires-clause-problem : goal.bases-requires-clause-problem
 bases-requires-clause-problem c =

@@ -2,8 +2,8 @@ use Rattle.std.proofs.Common.{◌≡◌, ◌∙◌, ◌*◌, length, ap, pos, ar
 use Rattle.std.specs.Int.{w128}
 use Rattle.std.proofs.lemmas.Int.{ints}
 use Rattle.rational.specs.Rational.{whole}
-use Rattle.call_tests.proofs.Equations.{two_equations}
-use Rattle.call_tests.proofs.chains.push_whole.Goals as goal
+use Rattle.chain_tests.proofs.Equations.{two_equations}
+use Rattle.chain_tests.proofs.chains.push_whole.Goals as goal
 
 pub start-requires-clause-problem : goal.start-requires-clause-problem
 start-requires-clause-problem c =

@@ -1,5 +1,5 @@
 use Rattle.face_descent.proofs.Valley.{told, valley_solution, valley_convex, valley_rayless}
-use Rattle.call_tests.proofs.descents.shrunk.Goals as goal
+use Rattle.form_tests.proofs.descents.shrunk.Goals as goal
 
 pub shrink-requires-clause-solution : goal.shrink-requires-clause-solution
 shrink-requires-clause-solution c =
