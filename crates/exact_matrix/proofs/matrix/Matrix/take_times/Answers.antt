@@ -47,7 +47,7 @@ returns-clause-row g c =
     let now = row_now c.args.self.now _ c.args.i c.take_times.new.row c.requires.row (written g c) in
     let was = row_read c.self.inside.columns c.self.inside.rows c.self.inside.entries.items c.deref_mut.result.now c.args.self.now c.args.i c.self.view_is c.requires.row c.deref_mut.ensures.value in
     subst (λ (new : List g.row.F.Denot). IsRow v c.take_times.result new (row_less top (v c.args.f) (map v (row_at c.args.self.now c.args.i)) (map v c.args.other.now))) (sym now)
-    (subst (λ (old : List g.row.F.Denot). IsRow v c.take_times.result c.take_times.new.row (row_less top (v c.args.f) (map v old) (map v c.args.other.now))) was c.take_times.ensures)
+    (subst (λ (old : List g.row.F.Denot). IsRow v c.take_times.result c.take_times.new.row (row_less top (v c.args.f) (map v old) (map v c.args.other.now))) was c.take_times.ensures.calculation)
 
 pub returns-clause-rest : goal.returns-clause-rest
 returns-clause-rest g c = rest_now c.args.self.now _ c.args.i c.take_times.new.row c.requires.row (written g c)
