@@ -19,7 +19,7 @@ use Rattle.frac_core.specs.declared.fractions.Op.TheVariants.{Add, Sub, Div}
 use Rattle.frac_core.specs.declared.fractions.Refused.{Refused}
 use Rattle.frac_core.specs.declared.fractions.Tried.{Tried}
 use Rattle.frac_core.specs.declared.fractions.Tried.TheVariants.{Is, Past}
-use Rattle.frac_core.specs.Calculated.{tried_in, exact_of}
+use Rattle.frac_core.specs.Calculated.{answered, exact_of, operated, tried_in, ◌>>=◌}
 use Rattle.frac_core.specs.Operations.{operation, IsWithin, IsFirstPast, Tries}
 use Rattle.frac_core.specs.Dot.{dot_of, dot_ops}
 use Rattle.frac_core.proofs.Values.{tried-value, dot_of-value}
@@ -30,7 +30,7 @@ use Rattle.program_law.specs.Program.{Program, sides}
 use Rattle.form_law.specs.Standing.{Standing, Above, Below, Free, standing, shift_at, shift, parts_at, change_at, spread}
 use Rattle.form_law.specs.Equations.{Equation, row_equations_by, row_equations, slacks_at, bound_equation_by, bound_slacks_by, bound_equations, row_slacks}
 use Rattle.form_law.specs.Form.{equations, form_by, form_of, point_of, direction_of}
-use Rattle.form_law.specs.Calculation.{Gives, ◌>>=◌, number, operated, products_in, products_ops, sums_in, sums_ops, two, constant_in, constant_ops, row_equations_by_in, row_ops_by, row_equations_in, row_ops, bound_equation_in, bound_ops_by, bound_equations_in, bound_ops, equations_in, form_in, form_ops, point_entry_in, point_entry_ops, point_in, point_ops, ray_entry_in, ray_entry_ops, ray_in, ray_ops}
+use Rattle.form_law.specs.Calculation.{Gives, products_in, products_ops, sums_in, sums_ops, two, constant_in, constant_ops, row_equations_by_in, row_ops_by, row_equations_in, row_ops, bound_equation_in, bound_ops_by, bound_equations_in, bound_ops, equations_in, form_in, form_ops, point_entry_in, point_entry_ops, point_in, point_ops, ray_entry_in, ray_entry_ops, ray_in, ray_ops}
 use Rattle.form_law.proofs.Equations.{equation}
 
 -- ---- one part after another
@@ -63,14 +63,14 @@ gives_made : {A B : Type 0} (top : ℕ) (xs : List Refused) (v : A) (t : Result 
 gives_made top xs v (Ok x) g h = (h.0, ap g h.1)
 gives_made top xs v (Err r) g h = h
 
-gives_number : (top : ℕ) (xs : List Refused) (v : ℚ) (t : Tried) → Tries top xs t → ((q : ℚ) → t ≡ Is q → q ≡ v) → Gives top xs v (number t)
+gives_number : (top : ℕ) (xs : List Refused) (v : ℚ) (t : Tried) → Tries top xs t → ((q : ℚ) → t ≡ Is q → q ≡ v) → Gives top xs v (answered t)
 gives_number top xs v (Is q) h e = (h, e q refl)
 gives_number top xs v (Past r) h e = h
 
 gives_one : (top : ℕ) (op : Op) (p q : ℚ) → Gives top (operation op p q ∷ []) (exact_of op p q) (operated top op p q)
 gives_one top op p q = gives_number top (operation op p q ∷ []) (exact_of op p q) (tried_in top op p q) (tries_one top op p q) (tried-value top op p q)
 
-gives_dot : (top : ℕ) (xs ys : List ℚ) → Gives top (dot_ops xs ys) (dot xs ys) (number (dot_of top xs ys))
+gives_dot : (top : ℕ) (xs ys : List ℚ) → Gives top (dot_ops xs ys) (dot xs ys) (answered (dot_of top xs ys))
 gives_dot top xs ys = gives_number top (dot_ops xs ys) (dot xs ys) (dot_of top xs ys) (dot_tries top xs ys) (dot_of-value top xs ys)
 
 -- ---- the objective
@@ -79,7 +79,7 @@ products_give : (top : ℕ) (rows : List (List ℚ)) (h : List ℚ) → Gives to
 unfolding products_in products_ops
 products_give top [] h = gives_nothing top []
 products_give top (row ∷ rows) h =
-    gives_then top (dot_ops row h) (products_ops rows h) (dot row h) (rows_dot (row ∷ rows) h) (number (dot_of top row h)) (λ q. products_in top rows h >>= λ qs. Ok (q ∷ qs))
+    gives_then top (dot_ops row h) (products_ops rows h) (dot row h) (rows_dot (row ∷ rows) h) (answered (dot_of top row h)) (λ q. products_in top rows h >>= λ qs. Ok (q ∷ qs))
     (gives_dot top row h) (gives_made top (products_ops rows h) (rows_dot rows h) (products_in top rows h) (λ qs. dot row h ∷ qs) (products_give top rows h))
 
 sums_give : (top : ℕ) (cs qs : List ℚ) → Gives top (sums_ops cs qs) (add_each cs qs) (sums_in top cs qs)
@@ -108,13 +108,13 @@ constant_gives top p h qh =
     let third = dot_ops p.costs h ++ fourth in
     let second = operation Div d two ∷ third in
     subst (λ v. Gives top (dot_ops h qh ++ second) v (constant_in top p h qh)) (ap (λ x. sum +ℚ x) (halved d))
-    (gives_then top (dot_ops h qh) second d (sum +ℚ e) (number (dot_of top h qh))
-    (λ d. operated top Div d two >>= λ half. number (dot_of top p.costs h) >>= λ ch. operated top Add p.constant ch >>= λ sum. operated top Add sum half)
+    (gives_then top (dot_ops h qh) second d (sum +ℚ e) (answered (dot_of top h qh))
+    (λ d. operated top Div d two >>= λ half. answered (dot_of top p.costs h) >>= λ ch. operated top Add p.constant ch >>= λ sum. operated top Add sum half)
     (gives_dot top h qh)
     (gives_then top (operation Div d two ∷ []) third e (sum +ℚ e) (operated top Div d two)
-    (λ half. number (dot_of top p.costs h) >>= λ ch. operated top Add p.constant ch >>= λ sum. operated top Add sum half)
+    (λ half. answered (dot_of top p.costs h) >>= λ ch. operated top Add p.constant ch >>= λ sum. operated top Add sum half)
     (gives_one top Div d two)
-    (gives_then top (dot_ops p.costs h) fourth ch (sum +ℚ e) (number (dot_of top p.costs h))
+    (gives_then top (dot_ops p.costs h) fourth ch (sum +ℚ e) (answered (dot_of top p.costs h))
     (λ ch. operated top Add p.constant ch >>= λ sum. operated top Add sum e)
     (gives_dot top p.costs h)
     (gives_then top (operation Add p.constant ch ∷ []) last sum (sum +ℚ e) (operated top Add p.constant ch)
@@ -155,7 +155,7 @@ rows_give top region h k (s ∷ ss) (row ∷ rows) =
     let es = row_equations_by s.low s.high k t a in
     let m = k + slacks_at s in
     let others = row_equations region h m ss rows in
-    gives_then top (dot_ops row h) (row_ops_by s.low s.high a ++ row_ops h ss rows) a (es ++ others) (number (dot_of top row h))
+    gives_then top (dot_ops row h) (row_ops_by s.low s.high a ++ row_ops h ss rows) a (es ++ others) (answered (dot_of top row h))
     (λ a. row_equations_by_in top s.low s.high k t a >>= λ es. row_equations_in top region h m ss rows >>= λ others. Ok (es ++ others))
     (gives_dot top row h)
     (gives_then top (row_ops_by s.low s.high a) (row_ops h ss rows) es (es ++ others) (row_equations_by_in top s.low s.high k t a)

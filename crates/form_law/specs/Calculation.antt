@@ -6,12 +6,9 @@ use Rattle.rational.specs.Rational.{ℚ, whole, one_ℚ, neg_ℚ, ◌+ℚ◌, �
 use Rattle.rational.specs.Order.{same_fields}
 use Rattle.rational.specs.Sums.{entry}
 use Rattle.rational.specs.Vectors.{dot, zeros, unit_vector, rows_dot}
-use Rattle.frac_core.specs.declared.fractions.Op.{Op}
 use Rattle.frac_core.specs.declared.fractions.Op.TheVariants.{Add, Sub, Div}
 use Rattle.frac_core.specs.declared.fractions.Refused.{Refused}
-use Rattle.frac_core.specs.declared.fractions.Tried.{Tried}
-use Rattle.frac_core.specs.declared.fractions.Tried.TheVariants.{Is, Past}
-use Rattle.frac_core.specs.Calculated.{tried_in}
+use Rattle.frac_core.specs.Calculated.{answered, operated, ◌>>=◌}
 use Rattle.frac_core.specs.Operations.{operation, IsWithin, IsFirstPast}
 use Rattle.frac_core.specs.Dot.{dot_of, dot_ops}
 use Rattle.program_law.specs.declared.Row.{Row}
@@ -20,20 +17,6 @@ use Rattle.program_law.specs.Program.{Program, sides}
 use Rattle.form_law.specs.Standing.{Standing, Above, Below, Free, standing, shift, parts_at, spread}
 use Rattle.form_law.specs.Equations.{Equation, slacks_at, bound_slacks_by, row_slacks}
 use Rattle.form_law.specs.Form.{Form, form_by}
-
--- one part after another, up to the first refusal
-infixl 10 ◌>>=◌
-abbrev pub ◌>>=◌ : {A B : Type 0} → Result A Refused → (A → Result B Refused) → Result B Refused
-(Ok x) >>= f = f x
-(Err r) >>= f = Err r
-
-abbrev pub number : Tried → Result ℚ Refused
-number (Is q) = Ok q
-number (Past r) = Err r
-
--- an operation
-abbrev pub operated : ℕ → Op → ℚ → ℚ → Result ℚ Refused
-operated top op p q = number (tried_in top op p q)
 
 -- what is said of an answer: it is the value, and no operation is past; or it is the first operation that is past
 abbrev pub Gives : {A : Type 0} → ℕ → List Refused → A → Result A Refused → Type 0
@@ -45,7 +28,7 @@ Gives top ops v (Err r) = IsFirstPast top ops r
 -- the product of each row with h
 unfoldable pub products_in : ℕ → List (List ℚ) → List ℚ → Result (List ℚ) Refused
 products_in top [] h = Ok []
-products_in top (row ∷ rows) h = number (dot_of top row h) >>= λ q. products_in top rows h >>= λ qs. Ok (q ∷ qs)
+products_in top (row ∷ rows) h = answered (dot_of top row h) >>= λ q. products_in top rows h >>= λ qs. Ok (q ∷ qs)
 
 unfoldable pub products_ops : List (List ℚ) → List ℚ → List Refused
 products_ops [] h = []
@@ -68,7 +51,7 @@ two = whole (pos 2)
 -- h · q h / 2, and then c0 + c · h and that
 unfoldable pub constant_in : ℕ → Program → List ℚ → List ℚ → Result ℚ Refused
 constant_in top p h qh =
-    number (dot_of top h qh) >>= λ d. operated top Div d two >>= λ half. number (dot_of top p.costs h) >>= λ ch. operated top Add p.constant ch >>= λ sum. operated top Add sum half
+    answered (dot_of top h qh) >>= λ d. operated top Div d two >>= λ half. answered (dot_of top p.costs h) >>= λ ch. operated top Add p.constant ch >>= λ sum. operated top Add sum half
 
 unfoldable pub constant_ops : Program → List ℚ → List ℚ → List Refused
 constant_ops p h qh =
@@ -98,7 +81,7 @@ unfoldable pub row_equations_in : ℕ → Region → List ℚ → ℕ → List R
 row_equations_in top region h k [] rows = Ok []
 row_equations_in top region h k (s ∷ ss) [] = Ok []
 row_equations_in top region h k (s ∷ ss) (row ∷ rows) =
-    number (dot_of top row h) >>= λ a. row_equations_by_in top s.low s.high k (spread region row) a >>= λ es. row_equations_in top region h (k + slacks_at s) ss rows >>= λ others. Ok (es ++ others)
+    answered (dot_of top row h) >>= λ a. row_equations_by_in top s.low s.high k (spread region row) a >>= λ es. row_equations_in top region h (k + slacks_at s) ss rows >>= λ others. Ok (es ++ others)
 
 unfoldable pub row_ops : List ℚ → List Row → List (List ℚ) → List Refused
 row_ops h [] rows = []
