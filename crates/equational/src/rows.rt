@@ -92,14 +92,13 @@ impl Model for Rows {
 }
 
 impl Rows {
-    pub(crate) fn new(alloc: Global) -> Result<Rows, Memory>
-        ensures { IfOk result (λ rows. rows ≡ record { entries = []; right = [] }) }
+    pub(crate) fn new(alloc: Global) -> Rows
+        ensures { result ≡ record { entries = []; right = [] } }
     {
-        let right = Vector::filled(alloc, 0, Frac::whole(0))?;
-        Ok(Rows {
+        Rows {
             entries: Vec::new(alloc),
-            right,
-        })
+            right: Vector::new(alloc),
+        }
     }
 
     // How many equations there are.
