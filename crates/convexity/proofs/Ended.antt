@@ -13,7 +13,7 @@ use Rattle.rational.specs.Order.{rational_cmp, same_fields, same_fields_lem}
 use Rattle.rational.specs.Vectors.{add_each, scale, zeros}
 use Rattle.rational.proofs.Field.{rationals}
 use Rattle.frac_core.specs.Parts.{max_part}
-use Rattle.frac_core.specs.Calculated.{tried_in, and_then, exact_of}
+use Rattle.frac_core.specs.Calculated.{tried_in, and_then, exact_of, ◌>>=◌, answered, operated}
 use Rattle.frac_core.specs.Dot.{dot_of, dot_ops}
 use Rattle.frac_core.specs.Operations.{operation, IsWithin, IsFirstPast, Tries}
 use Rattle.frac_core.specs.Row.{Row, Entries, Refusal, entry_then, less_step, row_less}
@@ -32,7 +32,6 @@ use Rattle.exact_matrix.specs.EliminationCalculation.{divide_step, divided_in}
 use Rattle.exact_matrix.specs.EliminationOperations.{division_ops, less_ops}
 use Rattle.convexity.specs.declared.Curvature.{Curvature}
 use Rattle.convexity.specs.declared.Curvature.TheVariants.{Squares, Negative}
-use Rattle.frac_core.specs.Calculated.{◌>>=◌, answered, operated}
 use Rattle.convexity.specs.Chain.{row_answered}
 use Rattle.convexity.specs.Half.{upper_half, IsHalf, IsSymmetric}
 use Rattle.convexity.specs.Reduction.{first_place, tilt, tilted, less_products, after_zero, after_square, flat, by_sign, curvature_from, curvature_of}

@@ -2,7 +2,7 @@
 use Rattle.std.specs.Prelude.{◌≡◌, ◌<◌, List, [], ◌∷◌, ◌++◌, take, drop, length, slice_index_or, slice_set, Result, Ok, Err}
 use Rattle.std.proofs.Common.{refl, sym, subst, ◌∙◌, ap, arith, append_assoc, append-nil, map}
 use Rattle.std.proofs.lemmas.List.{map-id}
-use Rattle.rational.specs.Rational.{ℚ, zero_ℚ}
+use Rattle.rational.specs.Rational.{ℚ}
 use Rattle.frac_core.specs.Parts.{max_part}
 use Rattle.frac_core.specs.Row.{Row, Entries, Refusal, IsRow, entry_then, row_less}
 use Rattle.frac_core.specs.declared.fractions.Refused.{Refused}

@@ -2,13 +2,10 @@
 use Rattle.std.specs.Prelude.{◌≡◌, List, [], ◌∷◌, ◌++◌, Result, Ok, Err}
 use Rattle.std.proofs.Common.{refl, sym, ap, ◌∙◌, append_assoc, append-nil}
 use Rattle.rational.specs.Rational.{ℚ}
-use Rattle.frac_core.specs.Calculated.{and_then}
 use Rattle.frac_core.specs.declared.fractions.Refused.{Refused}
-use Rattle.frac_core.specs.declared.fractions.Tried.{Tried}
-use Rattle.frac_core.specs.declared.fractions.Tried.TheVariants.{Is, Past as PastTried}
 use Rattle.exact_matrix.specs.declared.systems.Stop.{Stop}
 use Rattle.exact_matrix.specs.declared.systems.Stop.TheVariants.{Memory, Past}
-use Rattle.frac_core.specs.Calculated.{◌>>=◌, answered}
+use Rattle.frac_core.specs.Calculated.{◌>>=◌}
 use Rattle.exact_matrix.specs.Stops.{Stops}
 
 -- a stop ends all that follows

@@ -6,7 +6,7 @@ use Rattle.rational.specs.Rational.{ℚ, one_ℚ, neg_ℚ, ◌-ℚ◌}
 use Rattle.rational.specs.Order.{same_fields}
 use Rattle.rational.specs.Vectors.{dot, zeros}
 use Rattle.frac_core.specs.Parts.{max_part}
-use Rattle.frac_core.specs.Calculated.{tried_in}
+use Rattle.frac_core.specs.Calculated.{tried_in, ◌>>=◌, answered, operated}
 use Rattle.frac_core.specs.Dot.{dot_of}
 use Rattle.frac_core.specs.declared.fractions.Op.TheVariants.{Sub}
 use Rattle.frac_core.specs.declared.fractions.Refused.{Refused}
@@ -19,7 +19,6 @@ use Rattle.program_law.specs.declared.Row.{Row}
 use Rattle.program_law.specs.Region.{Region}
 use Rattle.form_law.specs.Standing.{spread}
 use Rattle.form_law.specs.Equations.{Equation, row_equations_by, slacks_at, row_equations, is_negated, right_of}
-use Rattle.frac_core.specs.Calculated.{◌>>=◌, answered, operated}
 use Rattle.form_law.specs.Calculation.{row_equations_by_in, row_equations_in}
 use Rattle.equational.specs.Formed.{begins_negated, firsts_from}
 use Rattle.equational.specs.declared.kept.First.{First}

@@ -1,10 +1,9 @@
 -- The objective's calculation, place by place.
-use Rattle.std.specs.Prelude.{◌≡◌, ◌<◌, ◌≤◌, ℕ, ◌+◌, List, [], ◌∷◌, drop, get_or, length, Result, Ok}
+use Rattle.std.specs.Prelude.{◌≡◌, ◌<◌, ◌≤◌, ℕ, ◌+◌, List, [], ◌∷◌, drop, get_or, length, Ok}
 use Rattle.std.proofs.Common.{refl, sym, ap, ◌∙◌, arith}
 use Rattle.std.proofs.lemmas.List.{drop_more, drop_all}
 use Rattle.rational.specs.Rational.{ℚ}
 use Rattle.frac_core.specs.declared.fractions.Op.TheVariants.{Add}
-use Rattle.frac_core.specs.declared.fractions.Refused.{Refused}
 use Rattle.frac_core.specs.Dot.{dot_of}
 use Rattle.frac_core.specs.Calculated.{◌>>=◌, answered, operated}
 use Rattle.form_law.specs.Calculation.{products_in, sums_in}

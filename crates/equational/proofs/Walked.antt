@@ -8,13 +8,12 @@ use Rattle.rational.specs.Sums.{entry}
 use Rattle.frac_core.specs.declared.fractions.Op.TheVariants.{Add, Sub}
 use Rattle.frac_core.specs.declared.fractions.Refused.{Refused}
 use Rattle.frac_core.specs.declared.fractions.Tried.{Tried}
-use Rattle.frac_core.specs.Calculated.{tried_in}
+use Rattle.frac_core.specs.Calculated.{tried_in, ◌>>=◌, answered, operated}
 use Rattle.frac_core.specs.Dot.{IsAnswer}
 use Rattle.frac_core.specs.Parts.{max_part}
 use Rattle.program_law.specs.declared.Row.{Row}
 use Rattle.program_law.specs.Region.{Region}
 use Rattle.form_law.specs.Standing.{Above, Below, Free, standing, parts_at, parts}
-use Rattle.frac_core.specs.Calculated.{◌>>=◌, answered, operated}
 use Rattle.form_law.specs.Calculation.{point_entry_in, ray_entry_in, point_in, ray_in}
 use Rattle.equational.specs.declared.back.Carried.{Carried}
 use Rattle.equational.specs.declared.back.Carried.TheVariants.{Point, Direction}

@@ -27,9 +27,8 @@ use Rattle.form_law.proofs.Calculated.{form_gives}
 use Rattle.form_law.proofs.Shapes.{shape, symmetric}
 use Rattle.form_law.proofs.Solving.{length-cost}
 use Rattle.equational.specs.declared.kept.First.{First}
-use Rattle.exact_matrix.specs.Stops.{Answers, IsAnswerOf}
+use Rattle.exact_matrix.specs.Stops.{Answers, IsAnswerOf, Stops}
 use Rattle.equational.specs.Formed.{Formed, formed, firsts_from, begins_negated, IsKept}
-use Rattle.exact_matrix.specs.Stops.{Stops}
 use Rattle.equational.specs.Built.{Laid, laid, all_slacks, Built, with_equations, appended, objective_in, quadratic_rows, IsMade}
 use Rattle.equational.proofs.Chains.{stops_then, stops_as}
 use Rattle.equational.proofs.Appended.{equations_after, length-joined, rows_of-joined}

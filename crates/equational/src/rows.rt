@@ -1,6 +1,6 @@
 // Rows of the form's matrices, appended one after another.
 
-ghost use Rattle.std.specs.Prelude.{◌≡◌, ◌≤◌, ◌<◌, ◌+◌, ◌-◌, ◌++◌, ◌∷◌, [], length, replicate, IfOk, OnOk};
+ghost use Rattle.std.specs.Prelude.{◌≡◌, ◌≤◌, ◌<◌, ◌+◌, ◌-◌, ◌++◌, ◌∷◌, [], length, replicate, OnOk};
 ghost use Rattle.rational.specs.Rational.{one_ℚ};
 ghost use Rattle.rational.specs.Vectors.{zeros};
 ghost use Rattle.program_law.specs.Tests.{is_negative};

@@ -3,35 +3,29 @@ use Rattle.std.proofs.Common.{◌≡◌, ℕ, zero, suc, List, [], ◌∷◌, �
 use Rattle.std.specs.Prelude.{Result, Ok, Err}
 use Rattle.std.specs.List.{AllByRecursion, All, Contains}
 use Rattle.std.proofs.lemmas.List.Elements.{All-head, All-nil, All-cons, All-contains_itself, Contains-append_right}
-use Rattle.rational.specs.Rational.{Fits}
-use Rattle.rational.specs.Vectors.{HasColumns}
+use Rattle.rational.specs.Rational.{Fits, ℚ, zero_ℚ, ◌+ℚ◌, ◌-ℚ◌, ◌*ℚ◌, ◌/ℚ◌, neg_ℚ, reciprocal, fits}
+use Rattle.rational.specs.Vectors.{HasColumns, add_each, scale}
 use Rattle.rational.proofs.Fits.{fits_yes}
 use Rattle.std.proofs.lemmas.Bool.Decides.{nat_tests}
 use Rattle.exact_matrix.specs.EliminationAnswers.{lines_of}
-use Rattle.exact_matrix.specs.Elimination.{eliminated}
-use Rattle.exact_matrix.specs.EliminationOperations.{elimination_ops}
-use Rattle.exact_matrix.specs.EliminationCalculation.{eliminated_in}
+use Rattle.exact_matrix.specs.Elimination.{eliminated, Line, is_pivot, pivot_row, with_pivot, divided, freed, step, eliminated_from}
+use Rattle.exact_matrix.specs.EliminationOperations.{elimination_ops, first_past, division_ops, less_ops, freed_ops, each_freed_ops, step_ops, ops_from}
+use Rattle.exact_matrix.specs.EliminationCalculation.{eliminated_in, ended, divide_step, divided_in, with_entries, freed_in, line_then, each_freed_in, cleared_by, step_in, eliminated_from_in}
 use Rattle.algebra.proofs.Ring as laws
 use Rattle.algebra.proofs.Polynomial.{minus, ◌⊕◌, ◌⊝◌, ◌⊗◌, ◌≐◌, lit}
 use Rattle.algebra.proofs.Solver.{ring}
-use Rattle.rational.specs.Rational.{ℚ, zero_ℚ, ◌+ℚ◌, ◌-ℚ◌, ◌*ℚ◌, ◌/ℚ◌, neg_ℚ, reciprocal, fits}
 use Rattle.rational.specs.Order.{same_fields, same_fields_lem}
 use Rattle.rational.specs.Sums.{entry}
-use Rattle.rational.specs.Vectors.{add_each, scale}
 use Rattle.rational.proofs.Field.{rationals}
 use Rattle.frac_core.specs.declared.fractions.Op.{Op}
 use Rattle.frac_core.specs.declared.fractions.Op.TheVariants.{Sub, Mul, Div}
 use Rattle.frac_core.specs.declared.fractions.Refused.{Refused}
 use Rattle.frac_core.specs.declared.fractions.Tried.{Tried}
 use Rattle.frac_core.specs.declared.fractions.Tried.TheVariants.{Is, Past}
-use Rattle.frac_core.specs.Calculated.{tried_in, and_then, exact_of}
+use Rattle.frac_core.specs.Calculated.{tried_in, and_then, exact_of, ◌>>=◌}
 use Rattle.frac_core.specs.Row.{less_step, Row, Entries, Refusal, entry_then, row_less}
 use Rattle.frac_core.proofs.RowLemmas.{less_zero, less_more}
-use Rattle.frac_core.specs.Calculated.{◌>>=◌}
-use Rattle.exact_matrix.specs.Elimination.{Line, is_pivot, pivot_row, with_pivot, divided, freed, step, eliminated_from}
 use Rattle.frac_core.specs.Operations.{operation, IsFirstPast, IsWithin}
-use Rattle.exact_matrix.specs.EliminationOperations.{first_past, division_ops, less_ops, freed_ops, each_freed_ops, step_ops, ops_from}
-use Rattle.exact_matrix.specs.EliminationCalculation.{ended, divide_step, divided_in, with_entries, freed_in, line_then, each_freed_in, cleared_by, step_in, eliminated_from_in}
 use Rattle.exact_matrix.proofs.EliminationLines.{bool_cases, by_pivot_row, step-none, step-some, freed-pivot, freed-other, eliminated-end, eliminated-more, HasWidth, width-step, width-with_pivot, width-lines_of}
 
 -- ---- the first operation that is past

@@ -1,4 +1,4 @@
-use Rattle.std.specs.Prelude.{List, ◌∷◌, Ok, false, drop}
+use Rattle.std.specs.Prelude.{◌∷◌, Ok, false, drop}
 use Rattle.std.proofs.Common.{ap, sym, ◌∙◌}
 use Rattle.std.proofs.lemmas.Result.{err_from_is_err_and}
 use Rattle.rational.specs.Rational.{ℚ}

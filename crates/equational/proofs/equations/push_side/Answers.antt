@@ -1,4 +1,4 @@
-use Rattle.std.proofs.Common.{ap, sym, ◌∙◌, replicate}
+use Rattle.std.proofs.Common.{ap, replicate}
 use Rattle.std.proofs.lemmas.Result.{err_from_is_err_and}
 use Rattle.form_law.specs.Standing.{spread}
 use Rattle.frac_core.specs.Calculated.{answered}

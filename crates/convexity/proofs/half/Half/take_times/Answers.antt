@@ -1,4 +1,4 @@
-use Rattle.std.specs.Prelude.{List, [], ◌≡◌, ◌-◌, slice_set}
+use Rattle.std.specs.Prelude.{List, ◌≡◌, ◌-◌, slice_set}
 use Rattle.std.proofs.Common.{sym, subst, arith}
 use Rattle.rational.specs.Rational.{ℚ}
 use Rattle.program_law.specs.Vectors.{row_at}

@@ -1,8 +1,7 @@
 use Rattle.std.proofs.Common.{◌≡◌, ◌≤◌, ◌+◌, ◌-◌, ◌*◌, List, length, map, sym, subst, arith}
 use Rattle.std.specs.Prelude.{unsigned_abs}
 use Rattle.std.proofs.Math.Nat.{mul-le-mul_right}
-use Rattle.frac_core.specs.Row.{IsRow}
-use Rattle.frac_core.specs.Row.{row_less}
+use Rattle.frac_core.specs.Row.{IsRow, row_less}
 use Rattle.std.specs.Vec.{with_items}
 use borrow.Rule.Slice.PartMut.{put_mid}
 use Rattle.exact_matrix.specs.Grid.{with_row, row_at, rows_of}
