@@ -1,22 +1,19 @@
 // The tests of a leaf.
 
-ghost use Rattle.std.specs.Prelude.{◌≡◌, ◌<◌, ◌≤◌, length};
+ghost use Rattle.std.specs.Prelude.{◌≡◌, ◌<◌, length};
 ghost use Rattle.rational.specs.Rational.{zero_ℚ};
 ghost use Rattle.program_law.specs.Program.{sides};
-ghost use Rattle.program_law.specs.Vectors.{at, row_at, column};
-ghost use Rattle.check_law.specs.Dot.{with_product, dot_of};
+ghost use Rattle.program_law.specs.Vectors.{column};
+ghost use Rattle.check_law.specs.Dot.{dot_of};
 ghost use Rattle.check_law.specs.Leaf.{with_rows, with_column, with_columns, no_gradient_at, gradient_at, reaches, leaf_sum, farkas_test, bound_test};
 
-use crate::reading::{column_count, row_count, sides_of};
-use crate::values::half_form;
 use check_law::Event;
 use check_steps::{
-    at_most, difference, dot_with, entry, is_positive, is_zero, product_added, side_added, sum,
-    tested,
+    at_most, difference, dot_with, entry, is_positive, product_added, side_added, sum, tested,
 };
 use frac_core::{Frac, Vector};
 use program_law::Row;
-use program_model::Program;
+use program_model::{Program, Region, half_form};
 
 // The sum, from 0, of each row's multiplier times its side.
 fn rows_added(p: &Program, node: u32, y: &Vector<Frac>) -> Result<Frac, Event>
@@ -24,36 +21,22 @@ fn rows_added(p: &Program, node: u32, y: &Vector<Frac>) -> Result<Frac, Event>
     ensures { result ≡ with_rows node zero_ℚ y.now (sides p.now) }
 {
     let mut sum = Frac::whole(0);
-    for i in 0..row_count(p) {
-        sum = side_added(node, sum, entry(y, i as usize), sides_of(p, i))?;
+    for i in 0..p.rows() {
+        sum = side_added(node, sum, entry(y, i as usize), p.row(i))?;
     }
     Ok(sum)
 }
 
-// The sum with an entry of A times its row's multiplier. A multiplier 0 costs nothing more.
-#[tactic(auto, using(crate::proofs::Skipped::skipped, crate::proofs::Places::again))]
-fn term_added(p: &Program, i: u32, j: usize, total: Frac, multiplier: Frac) -> Result<Frac, Event>
-    requires row { i < length p.now.rows }
-    requires place { j < length p.now.columns }
-    ensures { result ≡ with_product total (at (row_at p.now.entries i) j) multiplier }
-{
-    if is_zero(multiplier) {
-        return Ok(total);
-    }
-    let row = p.entries_of(i);
-    product_added(total, row[j], multiplier)
-}
-
 // A column of A times the rows' multipliers.
-#[tactic(auto, using(crate::proofs::Skipped::column_step))]
-fn column_dot(p: &Program, j: usize, y: &Vector<Frac>) -> Result<Frac, Event>
+#[tactic(auto, using(crate::proofs::ColumnLemmas::column_step))]
+fn column_dot(p: &Program, j: u32, y: &Vector<Frac>) -> Result<Frac, Event>
     requires rows { length y.now ≡ length p.now.rows }
     requires place { j < length p.now.columns }
     ensures { result ≡ dot_of (column p.now.entries j) y.now }
 {
     let mut total = Frac::whole(0);
-    for i in 0..row_count(p) {
-        total = term_added(p, i, j, total, entry(y, i as usize))?;
+    for i in 0..p.rows() {
+        total = product_added(total, p.entry(i, j), entry(y, i as usize))?;
     }
     Ok(total)
 }
@@ -64,7 +47,7 @@ fn farkas_column_added(
     p: &Program,
     node: u32,
     y: &Vector<Frac>,
-    j: usize,
+    j: u32,
     total: Frac,
     bounds: Row,
 ) -> Result<Frac, Event>
@@ -81,7 +64,7 @@ fn farkas_column_added(
 fn farkas_columns_added(
     p: &Program,
     node: u32,
-    region: &[Row],
+    region: &Region,
     y: &Vector<Frac>,
     total: Frac,
 ) -> Result<Frac, Event>
@@ -90,14 +73,14 @@ fn farkas_columns_added(
     ensures { result ≡ with_columns node no_gradient_at p.now.entries y.now 0 total region.now }
 {
     let mut sum = total;
-    for j in 0..region.len() {
-        sum = farkas_column_added(p, node, y, j, sum, region[j])?;
+    for j in 0..p.columns() {
+        sum = farkas_column_added(p, node, y, j, sum, region.at(j))?;
     }
     Ok(sum)
 }
 
 #[tactic(auto, unfolding(check_law::specs::Leaf::leaf_sum))]
-fn farkas_sum(p: &Program, node: u32, region: &[Row], y: &Vector<Frac>) -> Result<Frac, Event>
+fn farkas_sum(p: &Program, node: u32, region: &Region, y: &Vector<Frac>) -> Result<Frac, Event>
     requires rows { length y.now ≡ length p.now.rows }
     requires region { length region.now ≡ length p.now.columns }
     ensures { result ≡ leaf_sum p.now node no_gradient_at region.now y.now }
@@ -108,7 +91,7 @@ fn farkas_sum(p: &Program, node: u32, region: &[Row], y: &Vector<Frac>) -> Resul
 
 /// The test of a FARKAS leaf.
 #[tactic(auto, unfolding(check_law::specs::Leaf::farkas_test))]
-pub fn farkas_tested(p: &Program, node: u32, region: &[Row], y: &Vector<Frac>) -> Result<(), Event>
+pub fn farkas_tested(p: &Program, node: u32, region: &Region, y: &Vector<Frac>) -> Result<(), Event>
     requires rows { length y.now ≡ length p.now.rows }
     requires region { length region.now ≡ length p.now.columns }
     ensures { result ≡ farkas_test p.now node region.now y.now }
@@ -118,14 +101,14 @@ pub fn farkas_tested(p: &Program, node: u32, region: &[Row], y: &Vector<Frac>) -
 }
 
 // The gradient at a point, at a column.
-#[tactic(auto, unfolding(check_law::specs::Leaf::gradient_at), using(crate::proofs::Places::again))]
+#[tactic(auto, unfolding(check_law::specs::Leaf::gradient_at))]
 fn gradient(p: &Program, w: &Vector<Frac>, j: u32) -> Result<Frac, Event>
     requires width { length w.now ≡ length p.now.columns }
     requires place { j < length p.now.columns }
     ensures { result ≡ gradient_at p.now.pairs p.now.costs w.now j }
 {
     let product = dot_with(p.pairs_of(j), w)?;
-    sum(product, p.costs()[j as usize])
+    sum(product, p.cost(j))
 }
 
 // The sum with a column's residual times its bound.
@@ -135,17 +118,16 @@ fn bound_column_added(
     node: u32,
     w: &Vector<Frac>,
     y: &Vector<Frac>,
-    j: usize,
+    j: u32,
     total: Frac,
     bounds: Row,
 ) -> Result<Frac, Event>
     requires rows { length y.now ≡ length p.now.rows }
     requires width { length w.now ≡ length p.now.columns }
-    requires few { length p.now.columns ≤ 128 }
     requires place { j < length p.now.columns }
     ensures { result ≡ with_column node (gradient_at p.now.pairs p.now.costs w.now) p.now.entries y.now j total bounds }
 {
-    let gradient = gradient(p, w, j as u32)?;
+    let gradient = gradient(p, w, j)?;
     let product = column_dot(p, j, y)?;
     let residual = difference(gradient, product)?;
     side_added(node, total, residual, bounds)
@@ -155,20 +137,19 @@ fn bound_column_added(
 fn bound_columns_added(
     p: &Program,
     node: u32,
-    region: &[Row],
+    region: &Region,
     w: &Vector<Frac>,
     y: &Vector<Frac>,
     total: Frac,
 ) -> Result<Frac, Event>
     requires rows { length y.now ≡ length p.now.rows }
     requires width { length w.now ≡ length p.now.columns }
-    requires few { length p.now.columns ≤ 128 }
     requires region { length region.now ≡ length p.now.columns }
     ensures { result ≡ with_columns node (gradient_at p.now.pairs p.now.costs w.now) p.now.entries y.now 0 total region.now }
 {
     let mut sum = total;
-    for j in 0..region.len() {
-        sum = bound_column_added(p, node, w, y, j, sum, region[j])?;
+    for j in 0..p.columns() {
+        sum = bound_column_added(p, node, w, y, j, sum, region.at(j))?;
     }
     Ok(sum)
 }
@@ -177,7 +158,7 @@ fn bound_columns_added(
 fn bound_sum(
     p: &Program,
     node: u32,
-    region: &[Row],
+    region: &Region,
     w: &Vector<Frac>,
     y: &Vector<Frac>,
 ) -> Result<Frac, Event>
@@ -186,7 +167,6 @@ fn bound_sum(
     requires region { length region.now ≡ length p.now.columns }
     ensures { result ≡ leaf_sum p.now node (gradient_at p.now.pairs p.now.costs w.now) region.now y.now }
 {
-    let _columns = column_count(p);
     let rows = rows_added(p, node, y)?;
     bound_columns_added(p, node, region, w, y, rows)
 }
@@ -201,25 +181,23 @@ fn reaches(v: &Option<Frac>, low: Frac) -> bool
     }
 }
 
-/// The test of a BOUND leaf. `products` is room for a number for each column.
+/// The test of a BOUND leaf.
 #[tactic(auto, unfolding(check_law::specs::Leaf::bound_test))]
 pub fn bound_tested(
     p: &Program,
     v: &Option<Frac>,
     node: u32,
-    region: &[Row],
+    region: &Region,
     w: &Vector<Frac>,
     y: &Vector<Frac>,
-    products: &mut [Frac],
 ) -> Result<(), Event>
     requires rows { length y.now ≡ length p.now.rows }
     requires width { length w.now ≡ length p.now.columns }
     requires region { length region.now ≡ length p.now.columns }
-    requires room { length products.old ≡ length p.now.columns }
     ensures { result ≡ bound_test p.now v.now node region.now w.now y.now }
 {
     let sides = bound_sum(p, node, region, w, y)?;
-    let half = half_form(p, w, products)?;
+    let half = half_form(p, w)?;
     let rest = difference(p.constant(), half)?;
     let low = sum(rest, sides)?;
     tested(reaches(v, low), 8, node)
