@@ -10,7 +10,6 @@ ghost use Rattle.branching_law.specs.Rounding.{IsMarkedAt, IsFractional, IsRound
 ghost use Rattle.branching_law.specs.Sizes.{IsBranchNumber};
 ghost use Rattle.search_steps.specs.Progressing.{IsRoot};
 
-use crate::marks::is_marked_at;
 use crate::trails::Trail;
 use crate::turns::{no_turns, turn_above, turn_below, whole_after, whole_before};
 use branching_law::Turn;
@@ -108,7 +107,7 @@ pub fn rounded(alloc: Global, p: &Program) -> Result<Trail, Memory>
     let mut turns = no_turns(alloc)?;
     let mut region = Region::of(alloc, p)?;
     for j in 0..p.columns() {
-        if is_marked_at(p, j) && !column_rounded(p, j, &mut turns, &mut region)? {
+        if p.is_marked(j) && !column_rounded(p, j, &mut turns, &mut region)? {
             return Ok(Trail::at_root(alloc, turns, region));
         }
     }
