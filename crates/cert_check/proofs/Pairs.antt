@@ -1,6 +1,6 @@
 -- One step of the tests of the squares, counted from the end.
 use Rattle.std.specs.Prelude.{◌≡◌, ℕ, suc, ◌+◌, ◌-◌, ◌<◌, List}
-use Rattle.std.proofs.Common.{refl, arith, ap, ◌∙◌, add-one}
+use Rattle.std.proofs.Common.{refl, arith, add-one}
 use Rattle.rational.specs.Rational.{ℚ}
 use Rattle.program_law.specs.declared.Square.{Square}
 use Rattle.check_law.specs.Chain.{◌>>=◌}

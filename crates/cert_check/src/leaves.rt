@@ -1,11 +1,12 @@
 // The tests of a leaf.
 
-ghost use Rattle.std.specs.Prelude.{◌≡◌, ◌<◌, length};
+ghost use Rattle.std.specs.Prelude.{◌≡◌, ◌<◌, length, IfSome};
 ghost use Rattle.rational.specs.Rational.{zero_ℚ};
 ghost use Rattle.program_law.specs.Program.{sides};
 ghost use Rattle.program_law.specs.Vectors.{column};
 ghost use Rattle.check_law.specs.Dot.{dot_of};
-ghost use Rattle.check_law.specs.Leaf.{with_rows, with_column, with_columns, no_gradient_at, gradient_at, reaches, leaf_sum, farkas_test, bound_test};
+ghost use Rattle.check_law.specs.Leaf.{with_rows, with_column, with_columns, reaches, leaf_sum, farkas_test, bound_test};
+ghost use Rattle.cert_check.specs.Gradients.{gradient_of};
 
 use check_law::Event;
 use check_steps::{
@@ -41,52 +42,78 @@ fn column_dot(p: &Program, j: u32, y: &Vector<Frac>) -> Result<Frac, Event>
     Ok(total)
 }
 
-// The sum with a column's residual times its bound, where there is no gradient.
+// The gradient at a column: that at the leaf's point, or 0 where it has none.
+#[tactic(auto, unfolding(check_law::specs::Leaf::gradient_at))]
+fn gradient(p: &Program, w: Option<&Vector<Frac>>, j: u32) -> Result<Frac, Event>
+    requires width { IfSome w (λ w. length w.now ≡ length p.now.columns) }
+    requires place { j < length p.now.columns }
+    ensures { result ≡ gradient_of p.now w.entry j }
+{
+    let Some(w) = w else {
+        return Ok(Frac::whole(0));
+    };
+    let product = dot_with(p.pairs_of(j), w)?;
+    sum(product, p.cost(j))
+}
+
+// The sum with a column's residual times its bound.
 #[tactic(auto, unfolding(check_law::specs::Leaf::with_column))]
-fn farkas_column_added(
+fn column_added(
     p: &Program,
     node: u32,
+    w: Option<&Vector<Frac>>,
     y: &Vector<Frac>,
     j: u32,
     total: Frac,
     bounds: Row,
 ) -> Result<Frac, Event>
     requires rows { length y.now ≡ length p.now.rows }
+    requires width { IfSome w (λ w. length w.now ≡ length p.now.columns) }
     requires place { j < length p.now.columns }
-    ensures { result ≡ with_column node no_gradient_at p.now.entries y.now j total bounds }
+    ensures { result ≡ with_column node (gradient_of p.now w.entry) p.now.entries y.now j total bounds }
 {
+    let gradient = gradient(p, w, j)?;
     let product = column_dot(p, j, y)?;
-    let residual = difference(Frac::whole(0), product)?;
+    let residual = difference(gradient, product)?;
     side_added(node, total, residual, bounds)
 }
 
-// The sum with all columns, where there is no gradient.
-fn farkas_columns_added(
+// The sum with all columns.
+fn columns_added(
     p: &Program,
     node: u32,
     region: &Region,
+    w: Option<&Vector<Frac>>,
     y: &Vector<Frac>,
     total: Frac,
 ) -> Result<Frac, Event>
     requires rows { length y.now ≡ length p.now.rows }
+    requires width { IfSome w (λ w. length w.now ≡ length p.now.columns) }
     requires region { length region.now ≡ length p.now.columns }
-    ensures { result ≡ with_columns node no_gradient_at p.now.entries y.now 0 total region.now }
+    ensures { result ≡ with_columns node (gradient_of p.now w.entry) p.now.entries y.now 0 total region.now }
 {
     let mut sum = total;
     for j in 0..p.columns() {
-        sum = farkas_column_added(p, node, y, j, sum, region.at(j))?;
+        sum = column_added(p, node, w, y, j, sum, region.at(j))?;
     }
     Ok(sum)
 }
 
 #[tactic(auto, unfolding(check_law::specs::Leaf::leaf_sum))]
-fn farkas_sum(p: &Program, node: u32, region: &Region, y: &Vector<Frac>) -> Result<Frac, Event>
+fn leaf_sum(
+    p: &Program,
+    node: u32,
+    region: &Region,
+    w: Option<&Vector<Frac>>,
+    y: &Vector<Frac>,
+) -> Result<Frac, Event>
     requires rows { length y.now ≡ length p.now.rows }
+    requires width { IfSome w (λ w. length w.now ≡ length p.now.columns) }
     requires region { length region.now ≡ length p.now.columns }
-    ensures { result ≡ leaf_sum p.now node no_gradient_at region.now y.now }
+    ensures { result ≡ leaf_sum p.now node (gradient_of p.now w.entry) region.now y.now }
 {
     let rows = rows_added(p, node, y)?;
-    farkas_columns_added(p, node, region, y, rows)
+    columns_added(p, node, region, w, y, rows)
 }
 
 /// The test of a FARKAS leaf.
@@ -96,79 +123,8 @@ pub fn farkas_tested(p: &Program, node: u32, region: &Region, y: &Vector<Frac>) 
     requires region { length region.now ≡ length p.now.columns }
     ensures { result ≡ farkas_test p.now node region.now y.now }
 {
-    let sum = farkas_sum(p, node, region, y)?;
+    let sum = leaf_sum(p, node, region, None, y)?;
     tested(is_positive(sum), 9, node)
-}
-
-// The gradient at a point, at a column.
-#[tactic(auto, unfolding(check_law::specs::Leaf::gradient_at))]
-fn gradient(p: &Program, w: &Vector<Frac>, j: u32) -> Result<Frac, Event>
-    requires width { length w.now ≡ length p.now.columns }
-    requires place { j < length p.now.columns }
-    ensures { result ≡ gradient_at p.now.pairs p.now.costs w.now j }
-{
-    let product = dot_with(p.pairs_of(j), w)?;
-    sum(product, p.cost(j))
-}
-
-// The sum with a column's residual times its bound.
-#[tactic(auto, unfolding(check_law::specs::Leaf::with_column))]
-fn bound_column_added(
-    p: &Program,
-    node: u32,
-    w: &Vector<Frac>,
-    y: &Vector<Frac>,
-    j: u32,
-    total: Frac,
-    bounds: Row,
-) -> Result<Frac, Event>
-    requires rows { length y.now ≡ length p.now.rows }
-    requires width { length w.now ≡ length p.now.columns }
-    requires place { j < length p.now.columns }
-    ensures { result ≡ with_column node (gradient_at p.now.pairs p.now.costs w.now) p.now.entries y.now j total bounds }
-{
-    let gradient = gradient(p, w, j)?;
-    let product = column_dot(p, j, y)?;
-    let residual = difference(gradient, product)?;
-    side_added(node, total, residual, bounds)
-}
-
-// The sum with all columns.
-fn bound_columns_added(
-    p: &Program,
-    node: u32,
-    region: &Region,
-    w: &Vector<Frac>,
-    y: &Vector<Frac>,
-    total: Frac,
-) -> Result<Frac, Event>
-    requires rows { length y.now ≡ length p.now.rows }
-    requires width { length w.now ≡ length p.now.columns }
-    requires region { length region.now ≡ length p.now.columns }
-    ensures { result ≡ with_columns node (gradient_at p.now.pairs p.now.costs w.now) p.now.entries y.now 0 total region.now }
-{
-    let mut sum = total;
-    for j in 0..p.columns() {
-        sum = bound_column_added(p, node, w, y, j, sum, region.at(j))?;
-    }
-    Ok(sum)
-}
-
-#[tactic(auto, unfolding(check_law::specs::Leaf::leaf_sum))]
-fn bound_sum(
-    p: &Program,
-    node: u32,
-    region: &Region,
-    w: &Vector<Frac>,
-    y: &Vector<Frac>,
-) -> Result<Frac, Event>
-    requires rows { length y.now ≡ length p.now.rows }
-    requires width { length w.now ≡ length p.now.columns }
-    requires region { length region.now ≡ length p.now.columns }
-    ensures { result ≡ leaf_sum p.now node (gradient_at p.now.pairs p.now.costs w.now) region.now y.now }
-{
-    let rows = rows_added(p, node, y)?;
-    bound_columns_added(p, node, region, w, y, rows)
 }
 
 // Whether a number is at least the value. Where there is no value none is.
@@ -196,7 +152,7 @@ pub fn bound_tested(
     requires region { length region.now ≡ length p.now.columns }
     ensures { result ≡ bound_test p.now v.now node region.now w.now y.now }
 {
-    let sides = bound_sum(p, node, region, w, y)?;
+    let sides = leaf_sum(p, node, region, Some(w), y)?;
     let half = half_form(p, w)?;
     let rest = difference(p.constant(), half)?;
     let low = sum(rest, sides)?;

@@ -129,6 +129,6 @@ pub fn check(alloc: Global, p: &Program, c: &Certificate) -> Result<Checked, Mem
 {
     let _columns = p.columns();
     let region = Region::of(alloc, p)?;
-    let mut walk = Descent::start(alloc, region, branches_of(c))?;
+    let mut walk = Descent::with_room(alloc, region, branches_of(c))?;
     Ok(answer(checked(p, c, &mut walk)))
 }

@@ -5,16 +5,16 @@ ghost use Rattle.std.specs.List.{AllByRecursion};
 ghost use Rattle.rational.specs.Rational.{whole};
 ghost use Rattle.program_law.specs.Program.{bounds, marks};
 ghost use Rattle.check_law.specs.Fits.{FitsNode};
-ghost use Rattle.check_law.specs.Tree.{is_above, branch_step, cross_test, node_step, tree_test};
+ghost use Rattle.check_law.specs.Tree.{branch_step, cross_test, node_step, tree_test};
 ghost use Rattle.cert_check.specs.Walk.{waiting_of, StepLeaves, IsStart, branches};
 
 use crate::leaves::{bound_tested, farkas_tested};
 use crate::walks::{Walk, branch, next_region};
 use certificate_law::{Node, Tree};
 use check_law::Event;
-use check_steps::{at_most, sum, tested};
+use check_steps::{sum, tested};
 use frac_core::Frac;
-use program_model::{Program, Region};
+use program_model::{Program, Region, is_crossed};
 
 // The node at a place.
 fn node_of(tree: &Tree, k: usize) -> &Node
@@ -73,23 +73,13 @@ fn branch_taken(p: &Program, number: u32, j: u32, k: i128, walk: &mut Walk) -> R
     Ok(true)
 }
 
-// Whether a low bound is above a high one.
-fn is_above(low: Option<Frac>, high: Option<Frac>) -> bool
-    ensures { result ≡ is_above low high }
-{
-    match (low, high) {
-        (Some(low), Some(high)) => !at_most(low, high),
-        _ => false,
-    }
-}
-
 // A column's bounds cross.
 #[tactic(auto, unfolding(check_law::specs::Tree::cross_test))]
 fn cross_tested(number: u32, region: &Region, j: u32) -> Result<(), Event>
     requires { j < length region.now }
     ensures { result ≡ cross_test number region.now j }
 {
-    tested(is_above(region.low(j), region.high(j)), 10, number)
+    tested(is_crossed(&region.at(j)), 10, number)
 }
 
 // A node on the region at hand. Answers whether a region waits after it, which is then at hand.

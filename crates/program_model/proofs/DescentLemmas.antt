@@ -1,12 +1,14 @@
 -- Regions that are cut, and how they come back.
-use Rattle.std.specs.Prelude.{◌≡◌, ℕ, zero, suc, ◌<◌, List, [], ◌∷◌, ◌++◌, length, reverse, slice_set}
+use Rattle.std.specs.Prelude.{◌≡◌, ℕ, zero, suc, ◌<◌, List, [], ◌∷◌, ◌++◌, map, length, reverse, slice_set, slice_get, slice_index_or, Some}
 use Rattle.std.proofs.Common.{refl, arith, ap, sym, ◌∙◌, subst}
-use Rattle.std.proofs.lemmas.List.{reverse-append, length-reverse}
+use Rattle.std.proofs.lemmas.List.{reverse-append, reverse-reverse, length-reverse}
+use Rattle.indexmap.proofs.ReorderLemmas.{map-reverse}
 use Rattle.rational.specs.Rational.{ℚ}
 use Rattle.program_law.specs.Region.{Region, cut_high, cut_low}
 use Rattle.check_law.specs.Tree.{bounds_at}
+use Rattle.program_model.specs.declared.descents.Cut.{Cut}
 use Rattle.program_model.specs.declared.descents.Kept.{Kept}
-use Rattle.program_model.specs.Descents.{Descended, regions_before, AreWithin}
+use Rattle.program_model.specs.Descents.{Descended, regions_before, cuts_of, AreWithin}
 
 pub reverse_last : {T : Type 0} (xs : List (Kept T)) (x : Kept T) → reverse (xs ++ x ∷ []) ≡ x ∷ reverse xs
 reverse_last xs x = reverse-append xs (x ∷ [])
@@ -40,6 +42,34 @@ module _ {T : Type 0} where
 
   pub as_many_kept : (region : Region) (cuts : List (Kept T)) → length (regions_before region (reverse cuts)) ≡ length cuts
   as_many_kept region cuts = as_many region (reverse cuts) ∙ length-reverse cuts
+
+  -- the cuts are those that were kept
+  cuts_are : (region : Region) (cuts : List (Kept T)) → map (λ (c : Cut T × Region). c.0) (regions_before region cuts) ≡ map (λ (c : Kept T). c.cut) cuts
+  cuts_are region [] = refl
+  cuts_are region (c ∷ cs) = ap (λ (l : List (Cut T)). c.cut ∷ l) (cuts_are (slice_set region c.cut.column c.before) cs)
+
+  turned : (cuts : List (Kept T)) → reverse (map (λ (c : Kept T). c.cut) (reverse cuts)) ≡ map (λ (c : Kept T). c.cut) cuts
+  turned cuts = ap (λ (l : List (Cut T)). reverse l) (map-reverse (λ (c : Kept T). c.cut) cuts) ∙ reverse-reverse (map (λ (c : Kept T). c.cut) cuts)
+
+  pub cut_at : (d : Descended T) (region : Region) (cuts : List (Kept T)) (room : ℕ) (i : ℕ) (c : Kept T) → record { region = region; before = regions_before region (reverse cuts); room = room } ≡ d
+      → i < length cuts → slice_get (cuts_of d.before) i ≡ Some (slice_index_or cuts i c).cut
+  cut_at d region cuts room i c e h =
+      sym (ap (λ (d : Descended T). slice_get (cuts_of d.before) i) e)
+      ∙ ap (λ (l : List (Cut T)). slice_get (reverse l) i) (cuts_are region (reverse cuts))
+      ∙ ap (λ (l : List (Cut T)). slice_get l i) (turned cuts)
+      ∙ found cuts i c h
+    where
+      found : (cuts : List (Kept T)) (i : ℕ) (c : Kept T) → i < length cuts → slice_get (map (λ (c : Kept T). c.cut) cuts) i ≡ Some (slice_index_or cuts i c).cut
+      found [] i c h = absurd (omega (arith, h))
+      found (k ∷ cuts) zero c h = refl
+      found (k ∷ cuts) (suc i) c h = found cuts i c (omega (arith, h))
+
+  pub count : (d : Descended T) (region : Region) (cuts : List (Kept T)) (room : ℕ) → record { region = region; before = regions_before region (reverse cuts); room = room } ≡ d → length cuts ≡ length d.before
+  count d region cuts room e = sym (as_many_kept region cuts) ∙ ap (λ (d : Descended T). length d.before) e
+
+  pub is_kept : (d : Descended T) (region : Region) (cuts : List (Kept T)) (room : ℕ) (i : ℕ) → record { region = region; before = regions_before region (reverse cuts); room = room } ≡ d → i < length d.before
+      → i < length cuts
+  is_kept d region cuts room i e h = let a = count d region cuts room e in omega (arith, a, h)
 
   -- where there is room for a region before, there is room for a cut
   pub has_room : (d : Descended T) (region : Region) (cuts : List (Kept T)) (room : ℕ) → record { region = region; before = regions_before region (reverse cuts); room = room } ≡ d → length d.before < d.room

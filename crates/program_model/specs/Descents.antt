@@ -1,5 +1,5 @@
 -- A region, and the regions that it was cut from.
-use Rattle.std.specs.Prelude.{ℕ, ◌<◌, List, [], ◌∷◌, slice_set}
+use Rattle.std.specs.Prelude.{ℕ, ◌<◌, List, [], ◌∷◌, map, reverse, slice_set}
 use Rattle.program_law.specs.Region.{Region}
 use Rattle.program_model.specs.declared.descents.Cut.{Cut}
 use Rattle.program_model.specs.declared.descents.Kept.{Kept}
@@ -15,6 +15,10 @@ abbrev pub regions_before : {T : Type 0} → Region → List (Kept T) → List (
 regions_before region [] = []
 regions_before region (c ∷ cs) =
     (c.cut, slice_set region c.cut.column c.before) ∷ regions_before (slice_set region c.cut.column c.before) cs
+
+-- the cuts on the way, the first one first
+abbrev pub cuts_of : {T : Type 0} → List (Cut T × Region) → List (Cut T)
+cuts_of before = reverse (map (λ c. c.0) before)
 
 -- the cuts' columns are among so many
 abbrev pub AreWithin : {T : Type 0} → ℕ → List (Kept T) → Type 0

@@ -1,8 +1,9 @@
 // A region that is cut again and again, and the way back.
 
-ghost use Rattle.std.specs.Prelude.{◌≡◌, ◌<◌, ◌≤◌, ◌∷◌, [], length, reverse, IfOk, IfSome, IfNone, IsOk, OnOk, OnErr, vec_capacity};
+ghost use Rattle.std.specs.Prelude.{◌≡◌, ◌<◌, ◌≤◌, ◌∷◌, [], length, reverse, slice_get, Some, IfOk, IfSome, IfNone, IsOk, OnOk, OnErr, vec_capacity};
 ghost use Rattle.program_law.specs.Region.{cut_high, cut_low};
 ghost use Rattle.check_law.specs.Tree.{bounds_at};
+ghost use Rattle.program_model.specs.Descents.{cuts_of};
 
 use crate::regions::Region;
 use frac_core::{Frac, Memory};
@@ -44,8 +45,17 @@ impl<T> Model for Descent<T> {
 }
 
 impl<T: Copy + Drop> Descent<T> {
+    /// A region that isn't cut yet.
+    pub fn new(alloc: Global, region: Region) -> Descent<T>
+        ensures region { result.region ≡ region }
+        ensures before { result.before ≡ [] }
+    {
+        let cuts = Vec::new(alloc);
+        Descent { region, cuts }
+    }
+
     /// A region that isn't cut yet, with room for so many cuts.
-    pub fn start(alloc: Global, region: Region, room: usize) -> Result<Descent<T>, Memory>
+    pub fn with_room(alloc: Global, region: Region, room: usize) -> Result<Descent<T>, Memory>
         ensures region { IfOk result (λ d. d.region ≡ region) }
         ensures before { IfOk result (λ d. d.before ≡ []) }
         ensures room { IfOk result (λ d. room ≤ d.room) }
@@ -59,6 +69,22 @@ impl<T: Copy + Drop> Descent<T> {
         ensures { result.now ≡ self.now.region }
     {
         &self.region
+    }
+
+    /// How many cuts there are.
+    pub fn len(&self) -> usize
+        ensures { result ≡ length self.now.before }
+    {
+        self.cuts.as_slice().len()
+    }
+
+    /// A cut, counted from the first.
+    pub fn cut(&self, i: usize) -> Cut<T>
+        requires { i < length self.now.before }
+        ensures { slice_get (cuts_of self.now.before) i ≡ Some result }
+    {
+        let cuts = self.cuts.as_slice();
+        cuts[i].cut
     }
 
     /// Cuts the high bound of a column to the smaller of itself and `k`.

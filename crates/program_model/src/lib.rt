@@ -17,5 +17,5 @@ pub use names::{Name, is_marker, is_name};
 pub use points::{PointTest, check_point, form, half_form, point_tested, value};
 pub use program::Program;
 pub use program_law::{Column, Row, Square, Squares};
-pub use regions::Region;
+pub use regions::{Region, is_crossed};
 pub use sides::is_row;
