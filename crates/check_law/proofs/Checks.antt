@@ -1,5 +1,6 @@
--- The checking calculation settles whether a certificate is good.
-use Rattle.std.specs.Prelude.{◌≡◌, ℕ, suc, List, [], ◌∷◌, length, map, Option, Some, None, Ok}
+-- The checking calculation ends as its list does, and the list's tests hold where the certificate is good.
+use Rattle.std.specs.Prelude.{◌≡◌, ℕ, suc, List, [], ◌∷◌, length, map, Option, Some, None, Result, Ok, Err}
+use Rattle.std.specs.List.{All}
 use Rattle.std.proofs.Common.{sym, ◌∙◌, ap, refl}
 use Rattle.rational.specs.Rational.{ℚ}
 use Rattle.rational.specs.Order.{same_fields, same_fields_lem, same_fields_self}
@@ -15,6 +16,7 @@ use Rattle.certificate_law.specs.Tree.{IsGoodTree}
 use Rattle.program_law.specs.Verdict.{IsTrueOf}
 use Rattle.certificate_law.specs.Good.{IsGood, verdict_of}
 use Rattle.certificate_law.proofs.Verdicts.{good_is_true}
+use Rattle.check_law.specs.declared.Event.{Event}
 use Rattle.check_law.specs.Chain.{◌>>=◌, test, NoTestFails}
 use Rattle.check_law.specs.Point.{point_test}
 use Rattle.check_law.specs.Value.{value_of, form_of}
@@ -23,55 +25,73 @@ use Rattle.check_law.specs.Tree.{tree_test}
 use Rattle.check_law.specs.Ray.{ray_test}
 use Rattle.check_law.specs.Check.{checked}
 use Rattle.check_law.specs.Fits.{FitsTree, Fits}
-use Rattle.check_law.proofs.Settled.{Settles, joined, after, converted, tested, shown, passes}
-use Rattle.check_law.proofs.Products.{form_settles, value_settles}
-use Rattle.check_law.proofs.Points.{point_settles}
-use Rattle.check_law.proofs.Pairs.{squares_settle}
-use Rattle.check_law.proofs.Trees.{nodes_settle}
-use Rattle.check_law.proofs.Rays.{ray_settles}
+use Rattle.check_law.specs.Entries.{Holds, EndsAs}
+use Rattle.check_law.specs.PointList.{point_list}
+use Rattle.check_law.specs.TreeList.{tree_list}
+use Rattle.check_law.specs.CheckList.{check_list}
+use Rattle.check_law.proofs.Settled.{shown, passes}
+use Rattle.check_law.proofs.Listed.{Listed, EndsWith, joined, after, converted, tested, settled}
+use Rattle.check_law.proofs.Products.{form_listed, value_listed}
+use Rattle.check_law.proofs.Points.{point_listed}
+use Rattle.check_law.proofs.Pairs.{squares_listed}
+use Rattle.check_law.proofs.Trees.{nodes_listed}
+use Rattle.check_law.proofs.Rays.{ray_listed}
 
 mapped : {A B : Type 0} (f : A → B) (xs : List A) → length (map f xs) ≡ length xs
 mapped f [] = refl
 mapped f (x ∷ xs) = ap (λ (n : ℕ). suc n) (mapped f xs)
 
-tree_settles : (p : Program) (v : Option ℚ) (tree : List Node) → FitsTree p tree → Settles (tree_test p v (bounds p) tree) tt (IsGoodTree p v (bounds p) tree)
-tree_settles p v tree fit = nodes_settle p v tree 1 (bounds p ∷ []) (sym (mapped (λ r. r.1) p.rows)) fit.tree fit.nodes_fit
+tree_listed : (p : Program) (v : Option ℚ) (tree : List Node) → FitsTree p tree → Listed (tree_test p v (bounds p) tree) (tree_list p v (bounds p) tree) tt (IsGoodTree p v (bounds p) tree)
+tree_listed p v tree fit = nodes_listed p v tree 1 (bounds p ∷ []) (sym (mapped (λ r. r.1) p.rows)) fit.tree fit.nodes_fit
 
-in_place : (p : Program) (x : List ℚ) → IsProgram p → length x ≡ length p.columns → Settles (point_test p (bounds p) x) tt (IsPoint p (bounds p) x)
+in_place : (p : Program) (x : List ℚ) → IsProgram p → length x ≡ length p.columns → Listed (point_test p (bounds p) x) (point_list p (bounds p) x) tt (IsPoint p (bounds p) x)
 in_place p x is n =
-    point_settles p (bounds p) x (mapped (λ r. r.1) p.rows ∙ sym is.height) (mapped (λ c. bounds_of c.1) p.columns ∙ sym n) (mapped (λ c. c.1.whole) p.columns ∙ sym n)
+    point_listed p (bounds p) x (mapped (λ r. r.1) p.rows ∙ sym is.height) (mapped (λ c. bounds_of c.1) p.columns ∙ sym n) (mapped (λ c. c.1.whole) p.columns ∙ sym n)
 
-pub certificate_settles : (p : Program) (c : Certificate) → IsProgram p → Fits p c → Settles (checked p c) tt (IsGood p c)
-certificate_settles p (Optimal x v squares tree) is fit =
+pub certificate_listed : (p : Program) (c : Certificate) → IsProgram p → Fits p c → Listed (checked p c) (check_list p c) tt (IsGood p c)
+certificate_listed p (Optimal x v squares tree) is fit =
     let t = value p x in
     converted (checked p (Optimal x v squares tree))
     (λ h. record { point = h.0; has_value = h.1.0; has_squares = h.1.1.0; bounded = h.1.1.1 })
     (λ h. (h.point, (h.has_value, (h.has_squares, h.bounded))))
     (joined (point_test p (bounds p) x) (λ _. value_of p x >>= λ t. test (same_fields t v) 4 0 >>= λ _. squares_test p squares >>= λ _. tree_test p (Some v) (bounds p) tree) (in_place p x is fit.0)
-    (λ _. after (value_of p x) (λ t. test (same_fields t v) 4 0 >>= λ _. squares_test p squares >>= λ _. tree_test p (Some v) (bounds p) tree) (value_settles p x)
+    (after (value_of p x) (λ t. test (same_fields t v) 4 0 >>= λ _. squares_test p squares >>= λ _. tree_test p (Some v) (bounds p) tree) (value_listed p x)
     (joined (test (same_fields t v) 4 0) (λ _. squares_test p squares >>= λ _. tree_test p (Some v) (bounds p) tree)
     (tested (same_fields t v) 4 0 (same_fields_lem t v) (λ e. same_fields_self t v e))
-    (λ _. joined (squares_test p squares) (λ _. tree_test p (Some v) (bounds p) tree) (squares_settle p squares is fit.1)
-    (λ _. tree_settles p (Some v) tree fit.2)))))
-certificate_settles p (Infeasible tree) is fit = tree_settles p None tree fit.0
-certificate_settles p (Unbounded x d squares) is fit =
+    (joined (squares_test p squares) (λ _. tree_test p (Some v) (bounds p) tree) (squares_listed p squares is fit.1)
+    (tree_listed p (Some v) tree fit.2)))))
+certificate_listed p (Infeasible tree) is fit = tree_listed p None tree fit.0
+certificate_listed p (Unbounded x d squares) is fit =
     converted (checked p (Unbounded x d squares))
     (λ h. record { point = h.0; ray = h.1.0; has_squares = h.1.1 })
     (λ h. (h.point, (h.ray, h.has_squares)))
     (joined (point_test p (bounds p) x) (λ _. ray_test p d >>= λ _. squares_test p squares) (in_place p x is fit.0)
-    (λ _. joined (ray_test p d) (λ _. squares_test p squares)
-    (ray_settles p d (mapped (λ r. r.1) p.rows ∙ sym is.height) (mapped (λ c. bounds_of c.1) p.columns ∙ sym fit.1))
-    (λ _. squares_settle p squares is fit.2)))
-certificate_settles p (NotConvex v) is fit =
+    (joined (ray_test p d) (λ _. squares_test p squares)
+    (ray_listed p d (mapped (λ r. r.1) p.rows ∙ sym is.height) (mapped (λ c. bounds_of c.1) p.columns ∙ sym fit.1))
+    (squares_listed p squares is fit.2)))
+certificate_listed p (NotConvex v) is fit =
     let h = form p.pairs v v in
-    after (form_of p.pairs v) (λ h. test (is_negative h) 15 0) (form_settles p.pairs v)
+    after (form_of p.pairs v) (λ h. test (is_negative h) 15 0) (form_listed p.pairs v)
     (tested (is_negative h) 15 0 (negative_below h) (below_negative h))
 
 pub no_event_is_good : (p : Program) (c : Certificate) → IsProgram p → Fits p c → checked p c ≡ Ok tt → IsGood p c
-no_event_is_good p c is fit e = shown (checked p c) tt tt (certificate_settles p c is fit) e
+no_event_is_good p c is fit e = shown (checked p c) tt tt (settled (checked p c) (certificate_listed p c is fit)) e
 
 pub good_passes : (p : Program) (c : Certificate) → IsProgram p → Fits p c → IsGood p c → NoTestFails (checked p c)
-good_passes p c is fit good = passes (checked p c) tt (certificate_settles p c is fit) good
+good_passes p c is fit good = passes (checked p c) tt (settled (checked p c) (certificate_listed p c is fit)) good
 
 pub no_event_is_true : (p : Program) (c : Certificate) → IsProgram p → Fits p c → checked p c ≡ Ok tt → IsTrueOf p (verdict_of c)
 no_event_is_true p c is fit e = good_is_true p c (no_event_is_good p c is fit e)
+
+pub ends_as_listed : (p : Program) (c : Certificate) → IsProgram p → Fits p c → EndsAs (check_list p c) (checked p c)
+ends_as_listed p c is fit = by (checked p c) (certificate_listed p c is fit).ends
+  where
+    by : (r : Result (Unit {0}) Event) → EndsWith (check_list p c) tt r → EndsAs (check_list p c) r
+    by (Ok x) h = h.1
+    by (Err e) h = h
+
+pub good_holds : (p : Program) (c : Certificate) → IsProgram p → Fits p c → IsGood p c → All Holds (check_list p c)
+good_holds p c is fit good = (certificate_listed p c is fit).needs good
+
+pub held_is_good : (p : Program) (c : Certificate) → IsProgram p → Fits p c → All Holds (check_list p c) → IsGood p c
+held_is_good p c is fit h = (certificate_listed p c is fit).tells h

@@ -1,7 +1,7 @@
--- The test of the squares settles whether they sum to the form.
+-- The list of the squares' check, and that its tests hold where they sum to the form.
 use Rattle.std.specs.Prelude.{◌≡◌, ℕ, zero, suc, pos, ◌+◌, ◌<◌, ◌≤◌, nat_lt, List, [], ◌∷◌, length, ◌⊎◌, ◌||◌, Bool, true, false, All, Ok}
 use Rattle.std.specs.List.{AllByRecursion}
-use Rattle.std.proofs.Common.{arith, sym, subst, ◌∙◌, ap, refl, inl, inr}
+use Rattle.std.proofs.Common.{arith, sym, subst, ◌∙◌, ap, refl, inl, inr, cond}
 use Rattle.std.proofs.lemmas.Bool.Decides.{nat_tests}
 use Rattle.rational.specs.Rational.{ℚ, zero_ℚ, ◌+ℚ◌, ◌*ℚ◌}
 use Rattle.rational.specs.Order.{same_fields, same_fields_lem, same_fields_self}
@@ -10,6 +10,7 @@ use Rattle.program_law.proofs.Ring.{ring_by, x0, x1, x2, x3}
 use Rattle.algebra.proofs.Polynomial.{◌⊕◌, ◌⊗◌, num}
 use Rattle.program_law.proofs.Numbers.{zero_is}
 use Rattle.frac_core.specs.declared.fractions.Op.TheVariants.{Add, Mul}
+use Rattle.frac_core.specs.Operations.{operation}
 use Rattle.program_law.specs.declared.Square.{Square}
 use Rattle.program_law.specs.Vectors.{at, row_at}
 use Rattle.program_law.specs.Program.{Program, IsProgram}
@@ -17,38 +18,42 @@ use Rattle.certificate_law.specs.Squares.{squares_sum, AreSquaresOf}
 use Rattle.check_law.specs.Chain.{◌>>=◌, op, test}
 use Rattle.check_law.specs.Squares.{with_square, squares_from, pair_test, pairs_in_row, pairs_from, squares_test}
 use Rattle.check_law.specs.Fits.{FitsSquares}
-use Rattle.check_law.proofs.Settled.{Settles, done, joined, after, converted, of_value, chosen, tested, operated}
+use Rattle.check_law.specs.SquaresList.{square_ops, squares_ops, pair_list, pairs_list, columns_list, squares_list}
+use Rattle.check_law.proofs.Listed.{Listed, Works, done, joined, after, and_then, converted, of_value, tested, operated}
 use Rattle.check_law.proofs.Products.{either, nothing_right, plus_nothing}
 
-square_settles : (sum weight a b : ℚ) → Settles (with_square sum weight a b) (sum +ℚ weight *ℚ a *ℚ b) (Unit {0})
+square_listed : (sum weight a b : ℚ) → Works (with_square sum weight a b) (square_ops sum weight a b) (sum +ℚ weight *ℚ a *ℚ b)
 unfolding with_square
-square_settles sum weight a b =
-    chosen (is_zero a || is_zero b) _ _
-    (λ e. of_value (Ok sum) (plus_nothing sum (weight *ℚ a *ℚ b) (elim (either (is_zero a) (is_zero b) e) [ inl z ↦ none_first z | inr z ↦ nothing_right (weight *ℚ a) b z ])) (done sum tt))
-    (λ e. after (op Mul weight a) (λ s. op Mul s b >>= λ t. op Add sum t) (operated Mul weight a)
-    (after (op Mul (weight *ℚ a) b) (λ t. op Add sum t) (operated Mul (weight *ℚ a) b) (operated Add sum (weight *ℚ a *ℚ b))))
+square_listed sum weight a b = by (is_zero a || is_zero b) refl
   where
     none_first : is_zero a ≡ true → weight *ℚ a *ℚ b ≡ zero_ℚ
     none_first z = ap (λ u. weight *ℚ u *ℚ b) (zero_is a z) ∙ ring_by (weight ∷ b ∷ []) (x0 ⊗ num (pos 0) ⊗ x1) (num (pos 0)) refl
 
-sum_settles : (sum : ℚ) (ss : List Square) (j k : ℕ) → Settles (squares_from sum ss j k) (sum +ℚ squares_sum ss j k) (Unit {0})
-sum_settles sum [] j k = of_value (Ok sum) (plus_nothing sum zero_ℚ refl) (done sum tt)
-sum_settles sum (s ∷ ss) j k =
+    by : (z : Bool) → (is_zero a || is_zero b) ≡ z → Works (cond z (Ok sum) (op Mul weight a >>= λ s. op Mul s b >>= λ t. op Add sum t))
+        (cond z [] (operation Mul weight a ∷ operation Mul (weight *ℚ a) b ∷ operation Add sum (weight *ℚ a *ℚ b) ∷ [])) (sum +ℚ weight *ℚ a *ℚ b)
+    by true e = of_value (Ok sum) (plus_nothing sum (weight *ℚ a *ℚ b) (elim (either (is_zero a) (is_zero b) e) [ inl z ↦ none_first z | inr z ↦ nothing_right (weight *ℚ a) b z ])) (done sum tt)
+    by false e =
+        and_then (operation Mul weight a ∷ []) (operation Mul (weight *ℚ a) b ∷ operation Add sum (weight *ℚ a *ℚ b) ∷ []) (op Mul weight a) (λ s. op Mul s b >>= λ t. op Add sum t) (operated Mul weight a)
+        (and_then (operation Mul (weight *ℚ a) b ∷ []) (operation Add sum (weight *ℚ a *ℚ b) ∷ []) (op Mul (weight *ℚ a) b) (λ t. op Add sum t) (operated Mul (weight *ℚ a) b) (operated Add sum (weight *ℚ a *ℚ b)))
+
+sum_listed : (sum : ℚ) (ss : List Square) (j k : ℕ) → Works (squares_from sum ss j k) (squares_ops sum ss j k) (sum +ℚ squares_sum ss j k)
+sum_listed sum [] j k = of_value (Ok sum) (plus_nothing sum zero_ℚ refl) (done sum tt)
+sum_listed sum (s ∷ ss) j k =
     let term = s.weight *ℚ at s.coef j *ℚ at s.coef k in
     of_value (squares_from sum (s ∷ ss) j k) (ring_by (sum ∷ term ∷ squares_sum ss j k ∷ []) ((x0 ⊕ x1) ⊕ x2) (x0 ⊕ (x1 ⊕ x2)) refl)
-    (after (with_square sum s.weight (at s.coef j) (at s.coef k)) (λ t. squares_from t ss j k) (square_settles sum s.weight (at s.coef j) (at s.coef k))
-    (sum_settles (sum +ℚ term) ss j k))
+    (and_then (square_ops sum s.weight (at s.coef j) (at s.coef k)) (squares_ops (sum +ℚ term) ss j k) (with_square sum s.weight (at s.coef j) (at s.coef k)) (λ t. squares_from t ss j k) (square_listed sum s.weight (at s.coef j) (at s.coef k))
+    (sum_listed (sum +ℚ term) ss j k))
 
 -- Q and the squares agree at two places
 abbrev Agree : List (List ℚ) → List Square → ℕ → ℕ → Type 0
 Agree q ss j k = at (row_at q j) k ≡ squares_sum ss j k
 
-pair_settles : (q : List (List ℚ)) (ss : List Square) (j k : ℕ) → Settles (pair_test q ss j k) tt (Agree q ss j k)
+pair_listed : (q : List (List ℚ)) (ss : List Square) (j k : ℕ) → Listed (pair_test q ss j k) (pair_list q ss j k) tt (Agree q ss j k)
 unfolding pair_test
-pair_settles q ss j k =
+pair_listed q ss j k =
     let t = squares_sum ss j k in let entry = at (row_at q j) k in
     after (squares_from zero_ℚ ss j k) (λ t. test (same_fields t entry) 5 (suc j))
-    (of_value (squares_from zero_ℚ ss j k) (ring_by (t ∷ []) (num (pos 0) ⊕ x0) x0 refl) (sum_settles zero_ℚ ss j k))
+    (of_value (squares_from zero_ℚ ss j k) (ring_by (t ∷ []) (num (pos 0) ⊕ x0) x0 refl) (sum_listed zero_ℚ ss j k))
     (tested (same_fields t entry) 5 (suc j) (λ e. sym (same_fields_lem t entry e))
     (λ e. same_fields_self t _ (sym e)))
 
@@ -61,17 +66,17 @@ AgreeFrom : List (List ℚ) → List Square → ℕ → ℕ → Type 0
 AgreeFrom q ss j zero = Unit {0}
 AgreeFrom q ss j (suc more) = AgreeInRow q ss j j (suc more) × AgreeFrom q ss (suc j) more
 
-row_settles : (q : List (List ℚ)) (ss : List Square) (j k more : ℕ) → Settles (pairs_in_row q ss j k more) tt (AgreeInRow q ss j k more)
+row_listed : (q : List (List ℚ)) (ss : List Square) (j k more : ℕ) → Listed (pairs_in_row q ss j k more) (pairs_list q ss j k more) tt (AgreeInRow q ss j k more)
 unfolding AgreeInRow
-row_settles q ss j k zero = done tt tt
-row_settles q ss j k (suc more) =
-    joined (pair_test q ss j k) (λ _. pairs_in_row q ss j (suc k) more) (pair_settles q ss j k) (λ _. row_settles q ss j (suc k) more)
+row_listed q ss j k zero = done tt tt
+row_listed q ss j k (suc more) =
+    joined (pair_test q ss j k) (λ _. pairs_in_row q ss j (suc k) more) (pair_listed q ss j k) (row_listed q ss j (suc k) more)
 
-from_settles : (q : List (List ℚ)) (ss : List Square) (j more : ℕ) → Settles (pairs_from q ss j more) tt (AgreeFrom q ss j more)
+from_listed : (q : List (List ℚ)) (ss : List Square) (j more : ℕ) → Listed (pairs_from q ss j more) (columns_list q ss j more) tt (AgreeFrom q ss j more)
 unfolding AgreeFrom
-from_settles q ss j zero = done tt tt
-from_settles q ss j (suc more) =
-    joined (pairs_in_row q ss j j (suc more)) (λ _. pairs_from q ss (suc j) more) (row_settles q ss j j (suc more)) (λ _. from_settles q ss (suc j) more)
+from_listed q ss j zero = done tt tt
+from_listed q ss j (suc more) =
+    joined (pairs_in_row q ss j j (suc more)) (λ _. pairs_from q ss (suc j) more) (row_listed q ss j j (suc more)) (from_listed q ss (suc j) more)
 
 -- ---- from all places to these, and back
 row_of_all : (q : List (List ℚ)) (ss : List Square) → ((j k : ℕ) → Agree q ss j k) → (j k more : ℕ) → AgreeInRow q ss j k more
@@ -165,8 +170,8 @@ everywhere p ss is fit h j k = by (nat_lt k c) refl (nat_lt j c) refl (nat_lt k 
     by true e true f true g = turn j k (in_all q ss 0 c k j h (omega arith) (grind (arith, nat_tests)) (grind (arith, nat_tests)))
     by true e true f false g = in_all q ss 0 c j k h (omega arith) (grind (arith, nat_tests)) (grind (arith, nat_tests))
 
-pub squares_settle : (p : Program) (ss : List Square) → IsProgram p → FitsSquares p ss → Settles (squares_test p ss) tt (AreSquaresOf p.pairs ss)
+pub squares_listed : (p : Program) (ss : List Square) → IsProgram p → FitsSquares p ss → Listed (squares_test p ss) (squares_list p ss) tt (AreSquaresOf p.pairs ss)
 unfolding squares_test
-squares_settle p ss is fit =
+squares_listed p ss is fit =
     converted (pairs_from p.pairs ss 0 (length p.columns)) (λ h. record { positive = fit.positive; sum = everywhere p ss is fit h })
-    (λ h. from_all p.pairs ss h.sum 0 (length p.columns)) (from_settles p.pairs ss 0 (length p.columns))
+    (λ h. from_all p.pairs ss h.sum 0 (length p.columns)) (from_listed p.pairs ss 0 (length p.columns))

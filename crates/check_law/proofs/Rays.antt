@@ -1,5 +1,5 @@
--- The tests of a ray settle whether it is one.
-use Rattle.std.specs.Prelude.{◌≡◌, ℕ, suc, List, [], ◌∷◌, length, Option, Some, None, OnSome, is_none, Bool, true, false, not, ◌||◌}
+-- The list of a ray's check, and that its tests hold where it is a ray.
+use Rattle.std.specs.Prelude.{◌≡◌, ℕ, suc, List, [], ◌∷◌, ◌++◌, length, Option, Some, None, OnSome, is_none, Bool, true, false, not, ◌||◌}
 use Rattle.std.proofs.Common.{sym, ◌∙◌, ap, refl}
 use Rattle.rational.specs.Rational.{ℚ, zero_ℚ}
 use Rattle.rational.specs.Order.{◌≤ℚ◌}
@@ -13,8 +13,11 @@ use Rattle.certificate_law.specs.Ray.{KeepsSides, AllKeepSides, AreZero, IsRay}
 use Rattle.check_law.specs.Chain.{◌>>=◌, test}
 use Rattle.check_law.specs.Dot.{dot_of}
 use Rattle.check_law.specs.Ray.{keeps_sides, row_keeps, rows_keep, columns_keep, row_flat, rows_flat, ray_test}
-use Rattle.check_law.proofs.Settled.{Settles, done, joined, after, converted, tested}
-use Rattle.check_law.proofs.Products.{dot_is}
+use Rattle.check_law.specs.Entries.{operations, Test}
+use Rattle.frac_core.specs.Dot.{dot_ops}
+use Rattle.check_law.specs.RayList.{rows_list, columns_list, flat_list, ray_list}
+use Rattle.check_law.proofs.Listed.{Listed, done, joined, after, converted, tested}
+use Rattle.check_law.proofs.Dots.{dot_listed}
 use Rattle.check_law.proofs.Points.{longer, shorter, and_parts, and_both}
 
 clash : false ≡ true → ⊥
@@ -71,47 +74,47 @@ keeps_tells s d =
     let a = is_none s.low || not (is_negative d) in let b = is_none s.high || not (is_positive d) in
     (λ e. record { low = low.0 (and_parts a b e).0; high = high.0 (and_parts a b e).1 }, λ h. and_both a b (low.1 h.low) (high.1 h.high))
 
-row_settles : (place : ℕ) (s : Row) (row d : List ℚ) → Settles (row_keeps place s row d) tt (KeepsSides s (dot row d))
+row_listed : (place : ℕ) (s : Row) (row d : List ℚ) → Listed (row_keeps place s row d) (operations (dot_ops row d) ++ Test (keeps_sides s (dot row d)) 11 place ∷ []) tt (KeepsSides s (dot row d))
 unfolding row_keeps
-row_settles place s row d =
+row_listed place s row d =
     let tells = keeps_tells s (dot row d) in
-    after (dot_of row d) (λ t. test (keeps_sides s t) 11 place) (dot_is row d) (tested (keeps_sides s (dot row d)) 11 place tells.0 tells.1)
+    after (dot_of row d) (λ t. test (keeps_sides s t) 11 place) (dot_listed row d) (tested (keeps_sides s (dot row d)) 11 place tells.0 tells.1)
 
-rows_settle : (place : ℕ) (ss : List Row) (rows : List (List ℚ)) (d : List ℚ) → length ss ≡ length rows → Settles (rows_keep place ss rows d) tt (AllKeepSides ss (times rows d))
-rows_settle place [] [] d n = done tt tt
-rows_settle place [] (row ∷ rows) d n = absurd (longer row rows (sym n))
-rows_settle place (s ∷ ss) [] d n = absurd (longer s ss n)
-rows_settle place (s ∷ ss) (row ∷ rows) d n =
-    joined (row_keeps place s row d) (λ _. rows_keep (suc place) ss rows d) (row_settles place s row d)
-    (λ _. rows_settle (suc place) ss rows d (shorter s ss row rows n))
+rows_listed : (place : ℕ) (ss : List Row) (rows : List (List ℚ)) (d : List ℚ) → length ss ≡ length rows → Listed (rows_keep place ss rows d) (rows_list place ss rows d) tt (AllKeepSides ss (times rows d))
+rows_listed place [] [] d n = done tt tt
+rows_listed place [] (row ∷ rows) d n = absurd (longer row rows (sym n))
+rows_listed place (s ∷ ss) [] d n = absurd (longer s ss n)
+rows_listed place (s ∷ ss) (row ∷ rows) d n =
+    joined (row_keeps place s row d) (λ _. rows_keep (suc place) ss rows d) (row_listed place s row d)
+    (rows_listed (suc place) ss rows d (shorter s ss row rows n))
 
-columns_settle : (place : ℕ) (bs : List Row) (ds : List ℚ) → length bs ≡ length ds → Settles (columns_keep place bs ds) tt (AllKeepSides bs ds)
-columns_settle place [] [] n = done tt tt
-columns_settle place [] (d ∷ ds) n = absurd (longer d ds (sym n))
-columns_settle place (b ∷ bs) [] n = absurd (longer b bs n)
-columns_settle place (b ∷ bs) (d ∷ ds) n =
+columns_listed : (place : ℕ) (bs : List Row) (ds : List ℚ) → length bs ≡ length ds → Listed (columns_keep place bs ds) (columns_list place bs ds) tt (AllKeepSides bs ds)
+columns_listed place [] [] n = done tt tt
+columns_listed place [] (d ∷ ds) n = absurd (longer d ds (sym n))
+columns_listed place (b ∷ bs) [] n = absurd (longer b bs n)
+columns_listed place (b ∷ bs) (d ∷ ds) n =
     let tells = keeps_tells b d in
     joined (test (keeps_sides b d) 12 place) (λ _. columns_keep (suc place) bs ds) (tested (keeps_sides b d) 12 place tells.0 tells.1)
-    (λ _. columns_settle (suc place) bs ds (shorter b bs d ds n))
+    (columns_listed (suc place) bs ds (shorter b bs d ds n))
 
-zero_settles : (place : ℕ) (row d : List ℚ) → Settles (row_flat place row d) tt (dot row d ≡ zero_ℚ)
+zero_listed : (place : ℕ) (row d : List ℚ) → Listed (row_flat place row d) (operations (dot_ops row d) ++ Test (is_zero (dot row d)) 13 place ∷ []) tt (dot row d ≡ zero_ℚ)
 unfolding row_flat
-zero_settles place row d =
-    after (dot_of row d) (λ t. test (is_zero t) 13 place) (dot_is row d)
+zero_listed place row d =
+    after (dot_of row d) (λ t. test (is_zero t) 13 place) (dot_listed row d)
     (tested (is_zero (dot row d)) 13 place (zero_is (dot row d)) (λ e. ap is_zero e ∙ is_zero_zero))
 
-flat_settles : (place : ℕ) (rows : List (List ℚ)) (d : List ℚ) → Settles (rows_flat place rows d) tt (AreZero (times rows d))
-flat_settles place [] d = done tt tt
-flat_settles place (row ∷ rows) d =
-    joined (row_flat place row d) (λ _. rows_flat (suc place) rows d) (zero_settles place row d) (λ _. flat_settles (suc place) rows d)
+flat_listed : (place : ℕ) (rows : List (List ℚ)) (d : List ℚ) → Listed (rows_flat place rows d) (flat_list place rows d) tt (AreZero (times rows d))
+flat_listed place [] d = done tt tt
+flat_listed place (row ∷ rows) d =
+    joined (row_flat place row d) (λ _. rows_flat (suc place) rows d) (zero_listed place row d) (flat_listed (suc place) rows d)
 
-pub ray_settles : (p : Program) (d : List ℚ) → length (sides p) ≡ length p.entries → length (bounds p) ≡ length d → Settles (ray_test p d) tt (IsRay p d)
+pub ray_listed : (p : Program) (d : List ℚ) → length (sides p) ≡ length p.entries → length (bounds p) ≡ length d → Listed (ray_test p d) (ray_list p d) tt (IsRay p d)
 unfolding ray_test
-ray_settles p d n m =
+ray_listed p d n m =
     let c = dot p.costs d in
     converted (rows_keep 1 (sides p) p.entries d >>= λ _. columns_keep 1 (bounds p) d >>= λ _. rows_flat 1 p.pairs d >>= λ _. dot_of p.costs d >>= λ t. test (is_negative t) 14 0)
     (λ h. record { rows = h.0; columns = h.1.0; flat = h.1.1.0; falls = h.1.1.1 }) (λ h. (h.rows, (h.columns, (h.flat, h.falls))))
-    (joined (rows_keep 1 (sides p) p.entries d) (λ _. columns_keep 1 (bounds p) d >>= λ _. rows_flat 1 p.pairs d >>= λ _. dot_of p.costs d >>= λ t. test (is_negative t) 14 0) (rows_settle 1 (sides p) p.entries d n)
-    (λ _. joined (columns_keep 1 (bounds p) d) (λ _. rows_flat 1 p.pairs d >>= λ _. dot_of p.costs d >>= λ t. test (is_negative t) 14 0) (columns_settle 1 (bounds p) d m)
-    (λ _. joined (rows_flat 1 p.pairs d) (λ _. dot_of p.costs d >>= λ t. test (is_negative t) 14 0) (flat_settles 1 p.pairs d)
-    (λ _. after (dot_of p.costs d) (λ t. test (is_negative t) 14 0) (dot_is p.costs d) (tested (is_negative c) 14 0 (negative_below c) (below_negative c))))))
+    (joined (rows_keep 1 (sides p) p.entries d) (λ _. columns_keep 1 (bounds p) d >>= λ _. rows_flat 1 p.pairs d >>= λ _. dot_of p.costs d >>= λ t. test (is_negative t) 14 0) (rows_listed 1 (sides p) p.entries d n)
+    (joined (columns_keep 1 (bounds p) d) (λ _. rows_flat 1 p.pairs d >>= λ _. dot_of p.costs d >>= λ t. test (is_negative t) 14 0) (columns_listed 1 (bounds p) d m)
+    (joined (rows_flat 1 p.pairs d) (λ _. dot_of p.costs d >>= λ t. test (is_negative t) 14 0) (flat_listed 1 p.pairs d)
+    (after (dot_of p.costs d) (λ t. test (is_negative t) 14 0) (dot_listed p.costs d) (tested (is_negative c) 14 0 (negative_below c) (below_negative c))))))

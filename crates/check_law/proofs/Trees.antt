@@ -1,12 +1,13 @@
--- The tests of a tree settle whether it is good.
+-- The list of a tree's check, and that its tests hold where it is good.
 use Rattle.std.specs.Prelude.{◌≡◌, ℕ, zero, suc, ℤ, pos, List, [], ◌∷◌, length, Option, Some, None, Bool, true, false, not, Ok}
 use Rattle.std.specs.List.{AllByRecursion}
 use Rattle.std.proofs.Common.{sym, ◌∙◌, ap, refl}
-use Rattle.rational.specs.Rational.{ℚ, whole, one_ℚ, ◌+ℚ◌}
+use Rattle.rational.specs.Rational.{ℚ, whole, one_ℚ}
 use Rattle.rational.proofs.Field.{whole-+ℤ}
 use Rattle.program_law.specs.Tests.{is_le}
 use Rattle.program_law.proofs.Numbers.{lt_tested, lt_test}
 use Rattle.frac_core.specs.declared.fractions.Op.TheVariants.{Add}
+use Rattle.frac_core.specs.Operations.{operation}
 use Rattle.program_law.specs.declared.Row.{Row}
 use Rattle.program_law.specs.Region.{Region, cut_high, cut_low, left_of, right_of, IsCrossed, IsCrossedAt}
 use Rattle.program_law.specs.Program.{Program, sides, marks}
@@ -18,16 +19,18 @@ use Rattle.check_law.specs.Chain.{◌>>=◌, op, test}
 use Rattle.check_law.specs.Leaf.{farkas_test, bound_test}
 use Rattle.check_law.specs.Tree.{bounds_at, is_above, branch_step, cross_test, nodes_from}
 use Rattle.check_law.specs.Fits.{FitsNode}
-use Rattle.check_law.proofs.Settled.{Settles, done, joined, after, before, of_value, tested, operated}
-use Rattle.check_law.proofs.Leaves.{farkas_settles, bound_settles}
+use Rattle.check_law.specs.Entries.{Operation, Test}
+use Rattle.check_law.specs.TreeList.{nodes_list}
+use Rattle.check_law.proofs.Listed.{Listed, done, joined, before, turned, of_value, tested, operated}
+use Rattle.check_law.proofs.Leaves.{farkas_listed, bound_listed}
 
-branch_settles : (ms : List Bool) (node : ℕ) (region : Region) (j : ℕ) (k : ℤ) (waiting : List Region) → Settles (branch_step ms node region j k waiting) (left_of region j k ∷ right_of region j k ∷ waiting) (is_marked ms j ≡ true)
+branch_listed : (ms : List Bool) (node : ℕ) (region : Region) (j : ℕ) (k : ℤ) (waiting : List Region) → Listed (branch_step ms node region j k waiting) (Test (is_marked ms j) 6 node ∷ Operation (operation Add (whole k) one_ℚ) ∷ []) (left_of region j k ∷ right_of region j k ∷ waiting) (is_marked ms j ≡ true)
 unfolding branch_step
-branch_settles ms node region j k waiting =
+branch_listed ms node region j k waiting =
     before (test (is_marked ms j) 6 node) (λ _. op Add (whole k) one_ℚ >>= λ above. Ok (cut_high region j (whole k) ∷ cut_low region j above ∷ waiting))
     (tested (is_marked ms j) 6 node (λ e. e) (λ e. e))
-    (λ _. after (op Add (whole k) one_ℚ) (λ above. Ok (cut_high region j (whole k) ∷ cut_low region j above ∷ waiting)) (operated Add (whole k) one_ℚ)
-    (of_value (Ok (left_of region j k ∷ cut_low region j (whole k +ℚ one_ℚ) ∷ waiting)) (ap (λ z. left_of region j k ∷ cut_low region j z ∷ waiting) (sym (whole-+ℤ k (pos 1)))) (done _ tt)))
+    (of_value (op Add (whole k) one_ℚ >>= λ above. Ok (cut_high region j (whole k) ∷ cut_low region j above ∷ waiting)) (ap (λ z. left_of region j k ∷ cut_low region j z ∷ waiting) (sym (whole-+ℤ k (pos 1))))
+    (turned (op Add (whole k) one_ℚ) (λ above. cut_high region j (whole k) ∷ cut_low region j above ∷ waiting) (operated Add (whole k) one_ℚ)))
 
 above_if : (s : Row) → is_above s.low s.high ≡ true → IsCrossed s
 above_if s e = by s.low s.high refl refl e
@@ -38,14 +41,14 @@ above_if s e = by s.low s.high refl refl e
         clash : false ≡ true → ⊥
         clash e = cc
 
-    turned : (b : Bool) → not b ≡ true → b ≡ false
-    turned true e = sym e
-    turned false e = refl
+    told : (b : Bool) → not b ≡ true → b ≡ false
+    told true e = sym e
+    told false e = refl
 
     by : (l h : Option ℚ) → s.low ≡ l → s.high ≡ h → is_above l h ≡ true → IsCrossed s
     by None h a b e = no e
     by (Some l) None a b e = no e
-    by (Some l) (Some h) a b e = record { low = l; high = h; has_low = a; has_high = b; above = lt_tested l h (turned (is_le l h) e) }
+    by (Some l) (Some h) a b e = record { low = l; high = h; has_low = a; has_high = b; above = lt_tested l h (told (is_le l h) e) }
 
 if_above : (s : Row) → IsCrossed s → is_above s.low s.high ≡ true
 if_above s c = ap (λ o. is_above o s.high) c.has_low ∙ ap (is_above (Some c.low)) c.has_high ∙ ap not (lt_test c.low c.high c.above)
@@ -63,26 +66,26 @@ if_crossed [] j c = absurd c
 if_crossed (b ∷ bs) zero c = if_above b c
 if_crossed (b ∷ bs) (suc j) c = if_crossed bs j c
 
-cross_settles : (node : ℕ) (region : Region) (j : ℕ) → Settles (cross_test node region j) tt (IsCrossedAt region j)
+cross_listed : (node : ℕ) (region : Region) (j : ℕ) → Listed (cross_test node region j) (Test (is_above (bounds_at region j).low (bounds_at region j).high) 10 node ∷ []) tt (IsCrossedAt region j)
 unfolding cross_test
-cross_settles node region j = tested (is_above (bounds_at region j).low (bounds_at region j).high) 10 node (crossed_if region j) (if_crossed region j)
+cross_listed node region j = tested (is_above (bounds_at region j).low (bounds_at region j).high) 10 node (crossed_if region j) (if_crossed region j)
 
-pub nodes_settle : (p : Program) (v : Option ℚ) (nodes : List Node) (node : ℕ) (regions : List Region) → length p.rows ≡ length (sides p) → AreTrees (length regions) nodes → AllByRecursion (FitsNode p) nodes → Settles (nodes_from p v node regions nodes) tt (AreGood p v regions nodes)
-nodes_settle p v [] node [] r trees fit = done tt tt
-nodes_settle p v [] node (region ∷ waiting) r trees fit = absurd trees
-nodes_settle p v (n ∷ ns) node [] r trees fit = absurd trees
-nodes_settle p v (Branch j k ∷ ns) node (region ∷ waiting) r trees fit =
-    joined (branch_step (marks p) node region j k waiting) (λ after. nodes_from p v (suc node) after ns) (branch_settles (marks p) node region j k waiting)
-    (λ _. nodes_settle p v ns (suc node) (left_of region j k ∷ right_of region j k ∷ waiting) r trees fit.1)
-nodes_settle p v (Bound w y ∷ ns) node (region ∷ waiting) r trees fit =
+pub nodes_listed : (p : Program) (v : Option ℚ) (nodes : List Node) (node : ℕ) (regions : List Region) → length p.rows ≡ length (sides p) → AreTrees (length regions) nodes → AllByRecursion (FitsNode p) nodes → Listed (nodes_from p v node regions nodes) (nodes_list p v node regions nodes) tt (AreGood p v regions nodes)
+nodes_listed p v [] node [] r trees fit = done tt tt
+nodes_listed p v [] node (region ∷ waiting) r trees fit = absurd trees
+nodes_listed p v (n ∷ ns) node [] r trees fit = absurd trees
+nodes_listed p v (Branch j k ∷ ns) node (region ∷ waiting) r trees fit =
+    joined (branch_step (marks p) node region j k waiting) (λ after. nodes_from p v (suc node) after ns) (branch_listed (marks p) node region j k waiting)
+    (nodes_listed p v ns (suc node) (left_of region j k ∷ right_of region j k ∷ waiting) r trees fit.1)
+nodes_listed p v (Bound w y ∷ ns) node (region ∷ waiting) r trees fit =
     joined (bound_test p v node region w y >>= λ _. Ok waiting) (λ after. nodes_from p v (suc node) after ns)
-    (before (bound_test p v node region w y) (λ _. Ok waiting) (bound_settles p v node region w y (fit.0.1 ∙ r)) (λ _. done waiting tt))
-    (λ _. nodes_settle p v ns (suc node) waiting r trees fit.1)
-nodes_settle p v (Farkas y ∷ ns) node (region ∷ waiting) r trees fit =
+    (turned (bound_test p v node region w y) (λ _. waiting) (bound_listed p v node region w y (fit.0.1 ∙ r)))
+    (nodes_listed p v ns (suc node) waiting r trees fit.1)
+nodes_listed p v (Farkas y ∷ ns) node (region ∷ waiting) r trees fit =
     joined (farkas_test p node region y >>= λ _. Ok waiting) (λ after. nodes_from p v (suc node) after ns)
-    (before (farkas_test p node region y) (λ _. Ok waiting) (farkas_settles p node region y (fit.0 ∙ r)) (λ _. done waiting tt))
-    (λ _. nodes_settle p v ns (suc node) waiting r trees fit.1)
-nodes_settle p v (Cross j ∷ ns) node (region ∷ waiting) r trees fit =
+    (turned (farkas_test p node region y) (λ _. waiting) (farkas_listed p node region y (fit.0 ∙ r)))
+    (nodes_listed p v ns (suc node) waiting r trees fit.1)
+nodes_listed p v (Cross j ∷ ns) node (region ∷ waiting) r trees fit =
     joined (cross_test node region j >>= λ _. Ok waiting) (λ after. nodes_from p v (suc node) after ns)
-    (before (cross_test node region j) (λ _. Ok waiting) (cross_settles node region j) (λ _. done waiting tt))
-    (λ _. nodes_settle p v ns (suc node) waiting r trees fit.1)
+    (turned (cross_test node region j) (λ _. waiting) (cross_listed node region j))
+    (nodes_listed p v ns (suc node) waiting r trees fit.1)

@@ -1,0 +1,5 @@
+use Rattle.check_law.proofs.Dots.{one_product as lemma}
+use Rattle.check_law.proofs.products_are_those_of_fractions.Goals as goal
+
+pub returns : goal.returns
+returns c = lemma
