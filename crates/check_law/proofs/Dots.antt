@@ -58,7 +58,7 @@ one_sum s (x ∷ xs) (y ∷ ys) =
 pub one_product : (xs ys : List ℚ) → answered (fractions.dot_of max_part xs ys) ≡ dot_of xs ys
 one_product xs ys = one_sum zero_ℚ xs ys
 
-pub dot_listed : (xs ys : List ℚ) → Works (dot_of xs ys) (dot_ops xs ys) (dot xs ys)
-dot_listed xs ys =
-    subst (λ r. Works r (dot_ops xs ys) (dot xs ys)) (one_product xs ys)
+pub dot_listed : {C : Type 0} (xs ys : List ℚ) → Works C (dot_of xs ys) (dot_ops xs ys) (dot xs ys)
+dot_listed {C = C} xs ys =
+    subst (λ r. Works C r (dot_ops xs ys) (dot xs ys)) (one_product xs ys)
     (of_tries (dot_ops xs ys) (fractions.dot_of max_part xs ys) (dot xs ys) (dot_tries max_part xs ys) (dot_of-value max_part xs ys))

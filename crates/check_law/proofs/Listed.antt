@@ -25,14 +25,15 @@ abbrev pub EndsWith : {A : Type 0} → List Entry → A → Result A Event → T
 EndsWith entries v (Ok x) = (x ≡ v) × All Passes entries
 EndsWith entries v (Err e) = IsFirstEvent entries e
 
-pub record Listed {A : Type 0} (r : Result A Event) (entries : List Entry) (v : A) (T : Type 0) : Type 0 where
+-- C is what is known of sizes; the first part needs nothing of it
+pub record Listed {A : Type 0} (C : Type 0) (r : Result A Event) (entries : List Entry) (v : A) (T : Type 0) : Type 0 where
   pub ends : EndsWith entries v r
-  pub tells : All Holds entries → T
-  pub needs : T → All Holds entries
+  pub tells : C → All Holds entries → T
+  pub needs : C → T → All Holds entries
 
 -- operations alone
-abbrev pub Works : {A : Type 0} → Result A Event → List Refused → A → Type 0
-Works r ops v = Listed r (operations ops) v (Unit {0})
+abbrev pub Works : {A : Type 0} → Type 0 → Result A Event → List Refused → A → Type 0
+Works C r ops v = Listed C r (operations ops) v (Unit {0})
 
 -- ---- lists
 
@@ -74,46 +75,50 @@ ends_in_turn xs ys v w (Err e) f h k = record {
 }
 
 -- the facts of both parts
-pub joined : {A B : Type 0} {T U : Type 0} {v : A} {w : B} {xs ys : List Entry} (r : Result A Event) (f : A → Result B Event) → Listed r xs v T → Listed (f v) ys w U → Listed (r >>= f) (xs ++ ys) w (T × U)
+pub joined : {C : Type 0} {A B : Type 0} {T U : Type 0} {v : A} {w : B} {xs ys : List Entry} (r : Result A Event) (f : A → Result B Event) → Listed C r xs v T → Listed C (f v) ys w U → Listed C (r >>= f) (xs ++ ys) w (T × U)
 joined {v = v} {w = w} {xs = xs} {ys = ys} r f h k = record {
   ends = ends_in_turn xs ys v w r f h.ends k.ends;
-  tells = λ a. let parts = split Holds xs ys a in (h.tells parts.0, k.tells parts.1);
-  needs = λ p. All-append Holds xs ys (h.needs p.0) (k.needs p.1);
+  tells = λ c a. let parts = split Holds xs ys a in (h.tells c parts.0, k.tells c parts.1);
+  needs = λ c p. All-append Holds xs ys (h.needs c p.0) (k.needs c p.1);
 }
 
-pub converted : {A : Type 0} {T U : Type 0} {v : A} {xs : List Entry} (r : Result A Event) → (T → U) → (U → T) → Listed r xs v T → Listed r xs v U
-converted r f g h = record { ends = h.ends; tells = λ a. f (h.tells a); needs = λ u. h.needs (g u) }
+pub converted : {C : Type 0} {A : Type 0} {T U : Type 0} {v : A} {xs : List Entry} (r : Result A Event) → (C → T → U) → (C → U → T) → Listed C r xs v T → Listed C r xs v U
+converted r f g h = record { ends = h.ends; tells = λ c a. f c (h.tells c a); needs = λ c u. h.needs c (g c u) }
 
 -- the fact of the second part, behind operations
-pub after : {A B : Type 0} {U : Type 0} {v : A} {w : B} {xs ys : List Entry} (r : Result A Event) (f : A → Result B Event) → Listed r xs v (Unit {0}) → Listed (f v) ys w U → Listed (r >>= f) (xs ++ ys) w U
-after r f h k = converted (r >>= f) (λ p. p.1) (λ u. (tt, u)) (joined r f h k)
+pub after : {C : Type 0} {A B : Type 0} {U : Type 0} {v : A} {w : B} {xs ys : List Entry} (r : Result A Event) (f : A → Result B Event) → Listed C r xs v (Unit {0}) → Listed C (f v) ys w U → Listed C (r >>= f) (xs ++ ys) w U
+after r f h k = converted (r >>= f) (λ c p. p.1) (λ c u. (tt, u)) (joined r f h k)
 
 -- the fact of the first part, before operations
-pub before : {A B : Type 0} {T : Type 0} {v : A} {w : B} {xs ys : List Entry} (r : Result A Event) (f : A → Result B Event) → Listed r xs v T → Listed (f v) ys w (Unit {0}) → Listed (r >>= f) (xs ++ ys) w T
-before r f h k = converted (r >>= f) (λ p. p.0) (λ t. (t, tt)) (joined r f h k)
+pub before : {C : Type 0} {A B : Type 0} {T : Type 0} {v : A} {w : B} {xs ys : List Entry} (r : Result A Event) (f : A → Result B Event) → Listed C r xs v T → Listed C (f v) ys w (Unit {0}) → Listed C (r >>= f) (xs ++ ys) w T
+before r f h k = converted (r >>= f) (λ c p. p.0) (λ c t. (t, tt)) (joined r f h k)
 
 -- operations behind operations
-pub and_then : {A B : Type 0} {v : A} {w : B} (xs ys : List Refused) (r : Result A Event) (f : A → Result B Event) → Works r xs v → Works (f v) ys w → Works (r >>= f) (xs ++ ys) w
-and_then {w = w} xs ys r f h k = subst (λ l. Listed (r >>= f) l w (Unit {0})) (sym (map-append Operation xs ys)) (after r f h k)
+pub and_then : {C : Type 0} {A B : Type 0} {v : A} {w : B} (xs ys : List Refused) (r : Result A Event) (f : A → Result B Event) → Works C r xs v → Works C (f v) ys w → Works C (r >>= f) (xs ++ ys) w
+and_then {C = C} {w = w} xs ys r f h k = subst (λ l. Listed C (r >>= f) l w (Unit {0})) (sym (map-append Operation xs ys)) (after r f h k)
 
 -- another value of the end
-pub turned : {A B : Type 0} {T : Type 0} {v : A} {xs : List Entry} (r : Result A Event) (g : A → B) → Listed r xs v T → Listed (r >>= λ x. Ok (g x)) xs (g v) T
+pub turned : {C : Type 0} {A B : Type 0} {T : Type 0} {v : A} {xs : List Entry} (r : Result A Event) (g : A → B) → Listed C r xs v T → Listed C (r >>= λ x. Ok (g x)) xs (g v) T
 turned {v = v} {xs = xs} r g h = record { ends = by r h.ends; tells = h.tells; needs = h.needs }
   where
     by : (r : Result _ Event) → EndsWith xs v r → EndsWith xs (g v) (r >>= λ x. Ok (g x))
     by (Ok x) k = (ap g k.0, k.1)
     by (Err e) k = k
 
-pub of_value : {A : Type 0} {T : Type 0} {v w : A} {xs : List Entry} (r : Result A Event) → v ≡ w → Listed r xs v T → Listed r xs w T
-of_value {T = T} {xs = xs} r e h = subst (λ z. Listed r xs z T) e h
+pub of_value : {C : Type 0} {A : Type 0} {T : Type 0} {v w : A} {xs : List Entry} (r : Result A Event) → v ≡ w → Listed C r xs v T → Listed C r xs w T
+of_value {C = C} {T = T} {xs = xs} r e h = subst (λ z. Listed C r xs z T) e h
 
 -- ---- the parts
 
 -- nothing is calculated
-pub done : {A : Type 0} {T : Type 0} (x : A) → T → Listed (Ok x) [] x T
-done x t = record { ends = (refl, All-nil Passes); tells = λ a. t; needs = λ u. All-nil Holds }
+pub done : {C : Type 0} {A : Type 0} {T : Type 0} (x : A) → T → Listed C (Ok x) [] x T
+done x t = record { ends = (refl, All-nil Passes); tells = λ c a. t; needs = λ c u. All-nil Holds }
 
-pub chosen : {A : Type 0} {T : Type 0} {v : A} (b : Bool) (r s : Result A Event) (xs ys : List Entry) → (b ≡ true → Listed r xs v T) → (b ≡ false → Listed s ys v T) → Listed (cond b r s) (cond b xs ys) v T
+-- nothing is calculated, where sizes rule it out
+pub vacuous : {A : Type 0} {C T : Type 0} (x : A) → (C → ⊥) → Listed C (Ok x) [] x T
+vacuous x f = record { ends = (refl, All-nil Passes); tells = λ c a. absurd (f c); needs = λ c t. All-nil Holds }
+
+pub chosen : {C : Type 0} {A : Type 0} {T : Type 0} {v : A} (b : Bool) (r s : Result A Event) (xs ys : List Entry) → (b ≡ true → Listed C r xs v T) → (b ≡ false → Listed C s ys v T) → Listed C (cond b r s) (cond b xs ys) v T
 chosen true r s xs ys f g = f refl
 chosen false r s xs ys f g = g refl
 
@@ -124,11 +129,11 @@ clash e = cc
 pub stopped : (entry : Entry) (later : List Entry) → ¬ (Passes entry) → IsFirstEvent (entry ∷ later) (event_of entry)
 stopped entry later h = record { earlier = []; entry = entry; later = later; place = refl; before = All-nil Passes; stops = h; event = refl }
 
-pub tested : {T : Type 0} (b : Bool) (rule place : ℕ) → (b ≡ true → T) → (T → b ≡ true) → Listed (test b rule place) (Test b rule place ∷ []) tt T
+pub tested : {C : Type 0} {T : Type 0} (b : Bool) (rule place : ℕ) → (b ≡ true → T) → (T → b ≡ true) → Listed C (test b rule place) (Test b rule place ∷ []) tt T
 tested b rule place f g = record {
   ends = by b;
-  tells = λ a. f (All-head Holds (Test b rule place) [] a);
-  needs = λ t. All-one Holds (Test b rule place) (g t);
+  tells = λ c a. f (All-head Holds (Test b rule place) [] a);
+  needs = λ c t. All-one Holds (Test b rule place) (g t);
 }
   where
     by : (b : Bool) → EndsWith (Test b rule place ∷ []) tt (test b rule place)
@@ -136,8 +141,8 @@ tested b rule place f g = record {
     by false = stopped (Test false rule place) [] clash
 
 -- operations that answer by trying them in order
-pub of_tries : (ops : List Refused) (t : Tried) (v : ℚ) → Tries max_part ops t → ((q : ℚ) → t ≡ Is q → q ≡ v) → Works (answered t) ops v
-of_tries ops t v h value = record { ends = by t h value; tells = λ a. tt; needs = λ u. operations_hold ops }
+pub of_tries : {C : Type 0} (ops : List Refused) (t : Tried) (v : ℚ) → Tries max_part ops t → ((q : ℚ) → t ≡ Is q → q ≡ v) → Works C (answered t) ops v
+of_tries ops t v h value = record { ends = by t h value; tells = λ c a. tt; needs = λ c u. operations_hold ops }
   where
     by : (t : Tried) → Tries max_part ops t → ((q : ℚ) → t ≡ Is q → q ≡ v) → EndsWith (operations ops) v (answered t)
     by (Is q) h value = (value q refl, All-map Passes Operation ops h)
@@ -151,7 +156,7 @@ of_tries ops t v h value = record { ends = by t h value; tells = λ a. tt; needs
       event = refl;
     }
 
-pub operated : (o : Op) (x y : ℚ) → Works (op o x y) (operation o x y ∷ []) (exact_of o x y)
+pub operated : {C : Type 0} (o : Op) (x y : ℚ) → Works C (op o x y) (operation o x y ∷ []) (exact_of o x y)
 operated o x y = of_tries (operation o x y ∷ []) (tried o x y) (exact_of o x y) (tries_one max_part o x y) (tried-value max_part o x y)
 
 -- ---- what it settles
@@ -172,7 +177,7 @@ passing_holds (entry ∷ entries) h = All-cons Holds entry entries (by entry (Al
     by (Operation o) k = tt
     by (Test b r q) k = k
 
-pub settled : {A : Type 0} {T : Type 0} {v : A} {xs : List Entry} (r : Result A Event) → Listed r xs v T → Settles r v T
-settled {xs = xs} (Ok x) h = record { ends = (h.ends.0, h.tells (passing_holds xs h.ends.1)) }
-settled (Err (Past r)) h = record { ends = tt }
-settled {xs = xs} (Err (Failed rule place)) h = record { ends = λ t. holds_first xs rule place h.ends (h.needs t) }
+pub settled : {C : Type 0} {A : Type 0} {T : Type 0} {v : A} {xs : List Entry} (r : Result A Event) → C → Listed C r xs v T → Settles r v T
+settled {xs = xs} (Ok x) c h = record { ends = (h.ends.0, h.tells c (passing_holds xs h.ends.1)) }
+settled (Err (Past r)) c h = record { ends = tt }
+settled {xs = xs} (Err (Failed rule place)) c h = record { ends = λ t. holds_first xs rule place h.ends (h.needs c t) }

@@ -22,21 +22,21 @@ use Rattle.check_law.specs.SquaresList.{square_ops, squares_ops, pair_list, pair
 use Rattle.check_law.proofs.Listed.{Listed, Works, done, joined, after, and_then, converted, of_value, tested, operated}
 use Rattle.check_law.proofs.Products.{either, nothing_right, plus_nothing}
 
-square_listed : (sum weight a b : ℚ) → Works (with_square sum weight a b) (square_ops sum weight a b) (sum +ℚ weight *ℚ a *ℚ b)
+square_listed : {C : Type 0} (sum weight a b : ℚ) → Works C (with_square sum weight a b) (square_ops sum weight a b) (sum +ℚ weight *ℚ a *ℚ b)
 unfolding with_square
-square_listed sum weight a b = by (is_zero a || is_zero b) refl
+square_listed {C = C} sum weight a b = by (is_zero a || is_zero b) refl
   where
     none_first : is_zero a ≡ true → weight *ℚ a *ℚ b ≡ zero_ℚ
     none_first z = ap (λ u. weight *ℚ u *ℚ b) (zero_is a z) ∙ ring_by (weight ∷ b ∷ []) (x0 ⊗ num (pos 0) ⊗ x1) (num (pos 0)) refl
 
-    by : (z : Bool) → (is_zero a || is_zero b) ≡ z → Works (cond z (Ok sum) (op Mul weight a >>= λ s. op Mul s b >>= λ t. op Add sum t))
+    by : (z : Bool) → (is_zero a || is_zero b) ≡ z → Works C (cond z (Ok sum) (op Mul weight a >>= λ s. op Mul s b >>= λ t. op Add sum t))
         (cond z [] (operation Mul weight a ∷ operation Mul (weight *ℚ a) b ∷ operation Add sum (weight *ℚ a *ℚ b) ∷ [])) (sum +ℚ weight *ℚ a *ℚ b)
     by true e = of_value (Ok sum) (plus_nothing sum (weight *ℚ a *ℚ b) (elim (either (is_zero a) (is_zero b) e) [ inl z ↦ none_first z | inr z ↦ nothing_right (weight *ℚ a) b z ])) (done sum tt)
     by false e =
         and_then (operation Mul weight a ∷ []) (operation Mul (weight *ℚ a) b ∷ operation Add sum (weight *ℚ a *ℚ b) ∷ []) (op Mul weight a) (λ s. op Mul s b >>= λ t. op Add sum t) (operated Mul weight a)
         (and_then (operation Mul (weight *ℚ a) b ∷ []) (operation Add sum (weight *ℚ a *ℚ b) ∷ []) (op Mul (weight *ℚ a) b) (λ t. op Add sum t) (operated Mul (weight *ℚ a) b) (operated Add sum (weight *ℚ a *ℚ b)))
 
-sum_listed : (sum : ℚ) (ss : List Square) (j k : ℕ) → Works (squares_from sum ss j k) (squares_ops sum ss j k) (sum +ℚ squares_sum ss j k)
+sum_listed : {C : Type 0} (sum : ℚ) (ss : List Square) (j k : ℕ) → Works C (squares_from sum ss j k) (squares_ops sum ss j k) (sum +ℚ squares_sum ss j k)
 sum_listed sum [] j k = of_value (Ok sum) (plus_nothing sum zero_ℚ refl) (done sum tt)
 sum_listed sum (s ∷ ss) j k =
     let term = s.weight *ℚ at s.coef j *ℚ at s.coef k in
@@ -48,7 +48,7 @@ sum_listed sum (s ∷ ss) j k =
 abbrev Agree : List (List ℚ) → List Square → ℕ → ℕ → Type 0
 Agree q ss j k = at (row_at q j) k ≡ squares_sum ss j k
 
-pair_listed : (q : List (List ℚ)) (ss : List Square) (j k : ℕ) → Listed (pair_test q ss j k) (pair_list q ss j k) tt (Agree q ss j k)
+pair_listed : {C : Type 0} (q : List (List ℚ)) (ss : List Square) (j k : ℕ) → Listed C (pair_test q ss j k) (pair_list q ss j k) tt (Agree q ss j k)
 unfolding pair_test
 pair_listed q ss j k =
     let t = squares_sum ss j k in let entry = at (row_at q j) k in
@@ -66,13 +66,13 @@ AgreeFrom : List (List ℚ) → List Square → ℕ → ℕ → Type 0
 AgreeFrom q ss j zero = Unit {0}
 AgreeFrom q ss j (suc more) = AgreeInRow q ss j j (suc more) × AgreeFrom q ss (suc j) more
 
-row_listed : (q : List (List ℚ)) (ss : List Square) (j k more : ℕ) → Listed (pairs_in_row q ss j k more) (pairs_list q ss j k more) tt (AgreeInRow q ss j k more)
+row_listed : {C : Type 0} (q : List (List ℚ)) (ss : List Square) (j k more : ℕ) → Listed C (pairs_in_row q ss j k more) (pairs_list q ss j k more) tt (AgreeInRow q ss j k more)
 unfolding AgreeInRow
 row_listed q ss j k zero = done tt tt
 row_listed q ss j k (suc more) =
     joined (pair_test q ss j k) (λ _. pairs_in_row q ss j (suc k) more) (pair_listed q ss j k) (row_listed q ss j (suc k) more)
 
-from_listed : (q : List (List ℚ)) (ss : List Square) (j more : ℕ) → Listed (pairs_from q ss j more) (columns_list q ss j more) tt (AgreeFrom q ss j more)
+from_listed : {C : Type 0} (q : List (List ℚ)) (ss : List Square) (j more : ℕ) → Listed C (pairs_from q ss j more) (columns_list q ss j more) tt (AgreeFrom q ss j more)
 unfolding AgreeFrom
 from_listed q ss j zero = done tt tt
 from_listed q ss j (suc more) =
@@ -170,8 +170,8 @@ everywhere p ss is fit h j k = by (nat_lt k c) refl (nat_lt j c) refl (nat_lt k 
     by true e true f true g = turn j k (in_all q ss 0 c k j h (omega arith) (grind (arith, nat_tests)) (grind (arith, nat_tests)))
     by true e true f false g = in_all q ss 0 c j k h (omega arith) (grind (arith, nat_tests)) (grind (arith, nat_tests))
 
-pub squares_listed : (p : Program) (ss : List Square) → IsProgram p → FitsSquares p ss → Listed (squares_test p ss) (squares_list p ss) tt (AreSquaresOf p.pairs ss)
+pub squares_listed : {C : Type 0} (p : Program) (ss : List Square) → (C → IsProgram p) → (C → FitsSquares p ss) → Listed C (squares_test p ss) (squares_list p ss) tt (AreSquaresOf p.pairs ss)
 unfolding squares_test
 squares_listed p ss is fit =
-    converted (pairs_from p.pairs ss 0 (length p.columns)) (λ h. record { positive = fit.positive; sum = everywhere p ss is fit h })
-    (λ h. from_all p.pairs ss h.sum 0 (length p.columns)) (from_listed p.pairs ss 0 (length p.columns))
+    converted (pairs_from p.pairs ss 0 (length p.columns)) (λ c h. record { positive = (fit c).positive; sum = everywhere p ss (is c) (fit c) h })
+    (λ c h. from_all p.pairs ss h.sum 0 (length p.columns)) (from_listed p.pairs ss 0 (length p.columns))

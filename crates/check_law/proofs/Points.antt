@@ -16,7 +16,7 @@ use Rattle.check_law.specs.Dot.{dot_of}
 use Rattle.check_law.specs.Point.{is_above_low, is_below_high, is_within, keeps_mark, row_within, rows_within, column_within, columns_within, point_test}
 use Rattle.check_law.specs.PointList.{row_list, rows_list, column_list, columns_list, point_list}
 use Rattle.check_law.proofs.Settled.{Settles}
-use Rattle.check_law.proofs.Listed.{Listed, done, joined, after, converted, tested, settled}
+use Rattle.check_law.proofs.Listed.{Listed, done, vacuous, joined, after, converted, tested, settled}
 use Rattle.check_law.proofs.Dots.{dot_listed}
 
 pub longer : {A : Type 0} (x : A) (xs : List A) → length (x ∷ xs) ≡ 0 → ⊥
@@ -64,45 +64,46 @@ mark_tells false x = (λ e f. absurd (no f), λ h. refl)
     no : false ≡ true → ⊥
     no e = cc
 
-row_listed : (place : ℕ) (s : Row) (row x : List ℚ) → Listed (row_within place s row x) (row_list place s row x) tt (IsWithin s (dot row x))
+row_listed : {C : Type 0} (place : ℕ) (s : Row) (row x : List ℚ) → Listed C (row_within place s row x) (row_list place s row x) tt (IsWithin s (dot row x))
 unfolding row_within
 row_listed place s row x =
     let tells = within_tells s (dot row x) in
     after (dot_of row x) (λ t. test (is_within s t) 1 place) (dot_listed row x) (tested (is_within s (dot row x)) 1 place tells.0 tells.1)
 
-rows_listed : (place : ℕ) (ss : List Row) (rows : List (List ℚ)) (x : List ℚ) → length ss ≡ length rows → Listed (rows_within place ss rows x) (rows_list place ss rows x) tt (AllWithin ss (times rows x))
+rows_listed : {C : Type 0} (place : ℕ) (ss : List Row) (rows : List (List ℚ)) (x : List ℚ) → (C → length ss ≡ length rows) → Listed C (rows_within place ss rows x) (rows_list place ss rows x) tt (AllWithin ss (times rows x))
 rows_listed place [] [] x n = done tt tt
-rows_listed place [] (row ∷ rows) x n = absurd (longer row rows (sym n))
-rows_listed place (s ∷ ss) [] x n = absurd (longer s ss n)
+rows_listed place [] (row ∷ rows) x n = vacuous tt (λ c. longer row rows (sym (n c)))
+rows_listed place (s ∷ ss) [] x n = vacuous tt (λ c. longer s ss (n c))
 rows_listed place (s ∷ ss) (row ∷ rows) x n =
     joined (row_within place s row x) (λ _. rows_within (suc place) ss rows x) (row_listed place s row x)
-    (rows_listed (suc place) ss rows x (shorter s ss row rows n))
+    (rows_listed (suc place) ss rows x (λ c. shorter s ss row rows (n c)))
 
-column_listed : (place : ℕ) (b : Row) (m : Bool) (x : ℚ) → Listed (column_within place b m x) (column_list place b m x) tt (IsWithin b x × (m ≡ true → IsWhole x))
+column_listed : {C : Type 0} (place : ℕ) (b : Row) (m : Bool) (x : ℚ) → Listed C (column_within place b m x) (column_list place b m x) tt (IsWithin b x × (m ≡ true → IsWhole x))
 unfolding column_within
 column_listed place b m x =
     let within = within_tells b x in let mark = mark_tells m x in
     joined (test (is_within b x) 2 place) (λ _. test (keeps_mark m x) 3 place) (tested (is_within b x) 2 place within.0 within.1)
     (tested (keeps_mark m x) 3 place mark.0 mark.1)
 
-columns_listed : (place : ℕ) (bs : Region) (ms : List Bool) (xs : List ℚ) → length bs ≡ length xs → length ms ≡ length xs → Listed (columns_within place bs ms xs) (columns_list place bs ms xs) tt (AllWithin bs xs × AreWholeOn ms xs)
+columns_listed : {C : Type 0} (place : ℕ) (bs : Region) (ms : List Bool) (xs : List ℚ) → (C → length bs ≡ length xs) → (C → length ms ≡ length xs) → Listed C (columns_within place bs ms xs) (columns_list place bs ms xs) tt (AllWithin bs xs × AreWholeOn ms xs)
 columns_listed place [] [] [] n m = done tt (tt, tt)
-columns_listed place [] (mark ∷ ms) [] n m = absurd (longer mark ms m)
-columns_listed place [] ms (x ∷ xs) n m = absurd (longer x xs (sym n))
-columns_listed place (b ∷ bs) ms [] n m = absurd (longer b bs n)
-columns_listed place (b ∷ bs) [] (x ∷ xs) n m = absurd (longer x xs (sym m))
+columns_listed place [] (mark ∷ ms) [] n m = vacuous tt (λ c. longer mark ms (m c))
+columns_listed place [] ms (x ∷ xs) n m = vacuous tt (λ c. longer x xs (sym (n c)))
+columns_listed place (b ∷ bs) [] [] n m = vacuous tt (λ c. longer b bs (n c))
+columns_listed place (b ∷ bs) (mark ∷ ms) [] n m = vacuous tt (λ c. longer b bs (n c))
+columns_listed place (b ∷ bs) [] (x ∷ xs) n m = vacuous tt (λ c. longer x xs (sym (m c)))
 columns_listed place (b ∷ bs) (mark ∷ ms) (x ∷ xs) n m =
-    converted (columns_within place (b ∷ bs) (mark ∷ ms) (x ∷ xs)) (λ p. ((p.0.0, p.1.0), (p.0.1, p.1.1))) (λ p. ((p.0.0, p.1.0), (p.0.1, p.1.1)))
+    converted (columns_within place (b ∷ bs) (mark ∷ ms) (x ∷ xs)) (λ c p. ((p.0.0, p.1.0), (p.0.1, p.1.1))) (λ c p. ((p.0.0, p.1.0), (p.0.1, p.1.1)))
     (joined (column_within place b mark x) (λ _. columns_within (suc place) bs ms xs) (column_listed place b mark x)
-    (columns_listed (suc place) bs ms xs (shorter b bs x xs n) (shorter mark ms x xs m)))
+    (columns_listed (suc place) bs ms xs (λ c. shorter b bs x xs (n c)) (λ c. shorter mark ms x xs (m c))))
 
-pub point_listed : (p : Program) (region : Region) (x : List ℚ) → length (sides p) ≡ length p.entries → length region ≡ length x → length (marks p) ≡ length x → Listed (point_test p region x) (point_list p region x) tt (IsPoint p region x)
+pub point_listed : {C : Type 0} (p : Program) (region : Region) (x : List ℚ) → (C → length (sides p) ≡ length p.entries) → (C → length region ≡ length x) → (C → length (marks p) ≡ length x) → Listed C (point_test p region x) (point_list p region x) tt (IsPoint p region x)
 unfolding point_test
 point_listed p region x n m k =
     converted (rows_within 1 (sides p) p.entries x >>= λ _. columns_within 1 region (marks p) x)
-    (λ h. record { relaxed = record { rows = h.0; columns = h.1.0 }; whole = h.1.1 }) (λ h. (h.relaxed.rows, (h.relaxed.columns, h.whole)))
+    (λ c h. record { relaxed = record { rows = h.0; columns = h.1.0 }; whole = h.1.1 }) (λ c h. (h.relaxed.rows, (h.relaxed.columns, h.whole)))
     (joined (rows_within 1 (sides p) p.entries x) (λ _. columns_within 1 region (marks p) x) (rows_listed 1 (sides p) p.entries x n)
     (columns_listed 1 region (marks p) x m k))
 
 pub point_settles : (p : Program) (region : Region) (x : List ℚ) → length (sides p) ≡ length p.entries → length region ≡ length x → length (marks p) ≡ length x → Settles (point_test p region x) tt (IsPoint p region x)
-point_settles p region x n m k = settled (point_test p region x) (point_listed p region x n m k)
+point_settles p region x n m k = settled {C = Unit {0}} (point_test p region x) tt (point_listed p region x (λ _. n) (λ _. m) (λ _. k))

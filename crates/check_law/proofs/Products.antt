@@ -38,7 +38,7 @@ pub plus_nothing : (sum z : ℚ) → z ≡ zero_ℚ → sum ≡ sum +ℚ z
 plus_nothing sum z e = ring_by (sum ∷ []) x0 (x0 ⊕ num (pos 0)) refl ∙ ap (λ t. sum +ℚ t) (sym e)
 
 pub dot_is : (xs ys : List ℚ) → Settles (dot_of xs ys) (dot xs ys) (Unit {0})
-dot_is xs ys = settled (dot_of xs ys) (dot_listed xs ys)
+dot_is xs ys = settled {C = Unit {0}} (dot_of xs ys) tt (dot_listed xs ys)
 
 -- ---- the form
 abbrev entry : List ℚ → ℚ → List ℚ → ℚ
@@ -49,15 +49,15 @@ entries [] xs x = []
 entries (row ∷ rows) [] x = []
 entries (row ∷ rows) (xj ∷ xs) x = entry row xj x ∷ entries rows xs x
 
-entry_listed : (row : List ℚ) (xj : ℚ) (x : List ℚ) → Works (row_product row xj x) (if is_zero xj then [] else dot_ops row x) (entry row xj x)
+entry_listed : {C : Type 0} (row : List ℚ) (xj : ℚ) (x : List ℚ) → Works C (row_product row xj x) (if is_zero xj then [] else dot_ops row x) (entry row xj x)
 unfolding row_product
-entry_listed row xj x = by (is_zero xj)
+entry_listed {C = C} row xj x = by (is_zero xj)
   where
-    by : (b : Bool) → Works (cond b (Ok zero_ℚ) (dot_of row x)) (cond b [] (dot_ops row x)) (cond b zero_ℚ (dot row x))
+    by : (b : Bool) → Works C (cond b (Ok zero_ℚ) (dot_of row x)) (cond b [] (dot_ops row x)) (cond b zero_ℚ (dot row x))
     by true = done zero_ℚ tt
     by false = dot_listed row x
 
-entries_listed : (rows : List (List ℚ)) (xs x : List ℚ) → Works (row_products rows xs x) (product_ops rows xs x) (entries rows xs x)
+entries_listed : {C : Type 0} (rows : List (List ℚ)) (xs x : List ℚ) → Works C (row_products rows xs x) (product_ops rows xs x) (entries rows xs x)
 entries_listed [] xs x = done [] tt
 entries_listed (row ∷ rows) [] x = done [] tt
 entries_listed (row ∷ rows) (xj ∷ xs) x =
@@ -97,24 +97,24 @@ entries_form (row ∷ rows) [] x = refl
 entries_form (row ∷ rows) (xj ∷ xs) x =
     ap (λ z. z +ℚ dot xs (entries rows xs x)) (same_product row xj x ∙ *ℚ_comm xj (dot row x)) ∙ ap (λ z. dot row x *ℚ xj +ℚ z) (entries_form rows xs x)
 
-pub form_listed : (q : List (List ℚ)) (x : List ℚ) → Works (form_of q x) (form_ops q x) (form q x x)
+pub form_listed : {C : Type 0} (q : List (List ℚ)) (x : List ℚ) → Works C (form_of q x) (form_ops q x) (form q x x)
 unfolding form_of
-form_listed q x =
+form_listed {C = C} q x =
     and_then (product_ops q x x) (dot_ops x (times q x)) (row_products q x x) (λ t. dot_of x t) (entries_listed q x x)
     (of_value (dot_of x (entries q x x)) (entries_form q x x)
-    (subst (λ l. Works (dot_of x (entries q x x)) l (dot x (entries q x x))) (same_ops zero_ℚ q x x) (dot_listed x (entries q x x))))
+    (subst (λ l. Works C (dot_of x (entries q x x)) l (dot x (entries q x x))) (same_ops zero_ℚ q x x) (dot_listed x (entries q x x))))
 
 by_two : reciprocal two ≡ half
 unfolding reciprocal ratio gcd_of whole
 by_two = same_ℚ _ _ refl refl
 
-pub half_listed : (q : List (List ℚ)) (x : List ℚ) → Works (half_form q x) (half_ops q x) (half *ℚ form q x x)
+pub half_listed : {C : Type 0} (q : List (List ℚ)) (x : List ℚ) → Works C (half_form q x) (half_ops q x) (half *ℚ form q x x)
 unfolding half_form
 half_listed q x =
     and_then (form_ops q x) (operation Div (form q x x) two ∷ []) (form_of q x) (λ h. op Div h two) (form_listed q x)
     (of_value (op Div (form q x x) two) (ap (λ z. form q x x *ℚ z) by_two ∙ *ℚ_comm (form q x x) half) (operated Div (form q x x) two))
 
-pub value_listed : (p : Program) (x : List ℚ) → Works (value_of p x) (value_ops p x) (value p x)
+pub value_listed : {C : Type 0} (p : Program) (x : List ℚ) → Works C (value_of p x) (value_ops p x) (value p x)
 unfolding value_of
 value_listed p x =
     let h = half *ℚ form p.pairs x x in let l = dot p.costs x in let last = operation Add (h +ℚ l) p.constant ∷ [] in
@@ -123,4 +123,4 @@ value_listed p x =
     (and_then (operation Add h l ∷ []) last (op Add h l) (λ s. op Add s p.constant) (operated Add h l) (operated Add (h +ℚ l) p.constant)))
 
 pub value_settles : (p : Program) (x : List ℚ) → Settles (value_of p x) (value p x) (Unit {0})
-value_settles p x = settled (value_of p x) (value_listed p x)
+value_settles p x = settled {C = Unit {0}} (value_of p x) tt (value_listed p x)

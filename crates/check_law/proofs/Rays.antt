@@ -16,7 +16,7 @@ use Rattle.check_law.specs.Ray.{keeps_sides, row_keeps, rows_keep, columns_keep,
 use Rattle.check_law.specs.Entries.{operations, Test}
 use Rattle.frac_core.specs.Dot.{dot_ops}
 use Rattle.check_law.specs.RayList.{rows_list, columns_list, flat_list, ray_list}
-use Rattle.check_law.proofs.Listed.{Listed, done, joined, after, converted, tested}
+use Rattle.check_law.proofs.Listed.{Listed, done, vacuous, joined, after, converted, tested}
 use Rattle.check_law.proofs.Dots.{dot_listed}
 use Rattle.check_law.proofs.Points.{longer, shorter, and_parts, and_both}
 
@@ -74,46 +74,46 @@ keeps_tells s d =
     let a = is_none s.low || not (is_negative d) in let b = is_none s.high || not (is_positive d) in
     (λ e. record { low = low.0 (and_parts a b e).0; high = high.0 (and_parts a b e).1 }, λ h. and_both a b (low.1 h.low) (high.1 h.high))
 
-row_listed : (place : ℕ) (s : Row) (row d : List ℚ) → Listed (row_keeps place s row d) (operations (dot_ops row d) ++ Test (keeps_sides s (dot row d)) 11 place ∷ []) tt (KeepsSides s (dot row d))
+row_listed : {C : Type 0} (place : ℕ) (s : Row) (row d : List ℚ) → Listed C (row_keeps place s row d) (operations (dot_ops row d) ++ Test (keeps_sides s (dot row d)) 11 place ∷ []) tt (KeepsSides s (dot row d))
 unfolding row_keeps
 row_listed place s row d =
     let tells = keeps_tells s (dot row d) in
     after (dot_of row d) (λ t. test (keeps_sides s t) 11 place) (dot_listed row d) (tested (keeps_sides s (dot row d)) 11 place tells.0 tells.1)
 
-rows_listed : (place : ℕ) (ss : List Row) (rows : List (List ℚ)) (d : List ℚ) → length ss ≡ length rows → Listed (rows_keep place ss rows d) (rows_list place ss rows d) tt (AllKeepSides ss (times rows d))
+rows_listed : {C : Type 0} (place : ℕ) (ss : List Row) (rows : List (List ℚ)) (d : List ℚ) → (C → length ss ≡ length rows) → Listed C (rows_keep place ss rows d) (rows_list place ss rows d) tt (AllKeepSides ss (times rows d))
 rows_listed place [] [] d n = done tt tt
-rows_listed place [] (row ∷ rows) d n = absurd (longer row rows (sym n))
-rows_listed place (s ∷ ss) [] d n = absurd (longer s ss n)
+rows_listed place [] (row ∷ rows) d n = vacuous tt (λ c. longer row rows (sym (n c)))
+rows_listed place (s ∷ ss) [] d n = vacuous tt (λ c. longer s ss (n c))
 rows_listed place (s ∷ ss) (row ∷ rows) d n =
     joined (row_keeps place s row d) (λ _. rows_keep (suc place) ss rows d) (row_listed place s row d)
-    (rows_listed (suc place) ss rows d (shorter s ss row rows n))
+    (rows_listed (suc place) ss rows d (λ c. shorter s ss row rows (n c)))
 
-columns_listed : (place : ℕ) (bs : List Row) (ds : List ℚ) → length bs ≡ length ds → Listed (columns_keep place bs ds) (columns_list place bs ds) tt (AllKeepSides bs ds)
+columns_listed : {C : Type 0} (place : ℕ) (bs : List Row) (ds : List ℚ) → (C → length bs ≡ length ds) → Listed C (columns_keep place bs ds) (columns_list place bs ds) tt (AllKeepSides bs ds)
 columns_listed place [] [] n = done tt tt
-columns_listed place [] (d ∷ ds) n = absurd (longer d ds (sym n))
-columns_listed place (b ∷ bs) [] n = absurd (longer b bs n)
+columns_listed place [] (d ∷ ds) n = vacuous tt (λ c. longer d ds (sym (n c)))
+columns_listed place (b ∷ bs) [] n = vacuous tt (λ c. longer b bs (n c))
 columns_listed place (b ∷ bs) (d ∷ ds) n =
     let tells = keeps_tells b d in
     joined (test (keeps_sides b d) 12 place) (λ _. columns_keep (suc place) bs ds) (tested (keeps_sides b d) 12 place tells.0 tells.1)
-    (columns_listed (suc place) bs ds (shorter b bs d ds n))
+    (columns_listed (suc place) bs ds (λ c. shorter b bs d ds (n c)))
 
-zero_listed : (place : ℕ) (row d : List ℚ) → Listed (row_flat place row d) (operations (dot_ops row d) ++ Test (is_zero (dot row d)) 13 place ∷ []) tt (dot row d ≡ zero_ℚ)
+zero_listed : {C : Type 0} (place : ℕ) (row d : List ℚ) → Listed C (row_flat place row d) (operations (dot_ops row d) ++ Test (is_zero (dot row d)) 13 place ∷ []) tt (dot row d ≡ zero_ℚ)
 unfolding row_flat
 zero_listed place row d =
     after (dot_of row d) (λ t. test (is_zero t) 13 place) (dot_listed row d)
     (tested (is_zero (dot row d)) 13 place (zero_is (dot row d)) (λ e. ap is_zero e ∙ is_zero_zero))
 
-flat_listed : (place : ℕ) (rows : List (List ℚ)) (d : List ℚ) → Listed (rows_flat place rows d) (flat_list place rows d) tt (AreZero (times rows d))
+flat_listed : {C : Type 0} (place : ℕ) (rows : List (List ℚ)) (d : List ℚ) → Listed C (rows_flat place rows d) (flat_list place rows d) tt (AreZero (times rows d))
 flat_listed place [] d = done tt tt
 flat_listed place (row ∷ rows) d =
     joined (row_flat place row d) (λ _. rows_flat (suc place) rows d) (zero_listed place row d) (flat_listed (suc place) rows d)
 
-pub ray_listed : (p : Program) (d : List ℚ) → length (sides p) ≡ length p.entries → length (bounds p) ≡ length d → Listed (ray_test p d) (ray_list p d) tt (IsRay p d)
+pub ray_listed : {C : Type 0} (p : Program) (d : List ℚ) → (C → length (sides p) ≡ length p.entries) → (C → length (bounds p) ≡ length d) → Listed C (ray_test p d) (ray_list p d) tt (IsRay p d)
 unfolding ray_test
 ray_listed p d n m =
     let c = dot p.costs d in
     converted (rows_keep 1 (sides p) p.entries d >>= λ _. columns_keep 1 (bounds p) d >>= λ _. rows_flat 1 p.pairs d >>= λ _. dot_of p.costs d >>= λ t. test (is_negative t) 14 0)
-    (λ h. record { rows = h.0; columns = h.1.0; flat = h.1.1.0; falls = h.1.1.1 }) (λ h. (h.rows, (h.columns, (h.flat, h.falls))))
+    (λ _ h. record { rows = h.0; columns = h.1.0; flat = h.1.1.0; falls = h.1.1.1 }) (λ _ h. (h.rows, (h.columns, (h.flat, h.falls))))
     (joined (rows_keep 1 (sides p) p.entries d) (λ _. columns_keep 1 (bounds p) d >>= λ _. rows_flat 1 p.pairs d >>= λ _. dot_of p.costs d >>= λ t. test (is_negative t) 14 0) (rows_listed 1 (sides p) p.entries d n)
     (joined (columns_keep 1 (bounds p) d) (λ _. rows_flat 1 p.pairs d >>= λ _. dot_of p.costs d >>= λ t. test (is_negative t) 14 0) (columns_listed 1 (bounds p) d m)
     (joined (rows_flat 1 p.pairs d) (λ _. dot_of p.costs d >>= λ t. test (is_negative t) 14 0) (flat_listed 1 p.pairs d)

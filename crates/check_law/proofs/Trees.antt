@@ -21,10 +21,10 @@ use Rattle.check_law.specs.Tree.{bounds_at, is_above, branch_step, cross_test, n
 use Rattle.check_law.specs.Fits.{FitsNode}
 use Rattle.check_law.specs.Entries.{Operation, Test}
 use Rattle.check_law.specs.TreeList.{nodes_list}
-use Rattle.check_law.proofs.Listed.{Listed, done, joined, before, turned, of_value, tested, operated}
+use Rattle.check_law.proofs.Listed.{Listed, done, vacuous, joined, before, turned, of_value, tested, operated}
 use Rattle.check_law.proofs.Leaves.{farkas_listed, bound_listed}
 
-branch_listed : (ms : List Bool) (node : ℕ) (region : Region) (j : ℕ) (k : ℤ) (waiting : List Region) → Listed (branch_step ms node region j k waiting) (Test (is_marked ms j) 6 node ∷ Operation (operation Add (whole k) one_ℚ) ∷ []) (left_of region j k ∷ right_of region j k ∷ waiting) (is_marked ms j ≡ true)
+branch_listed : {C : Type 0} (ms : List Bool) (node : ℕ) (region : Region) (j : ℕ) (k : ℤ) (waiting : List Region) → Listed C (branch_step ms node region j k waiting) (Test (is_marked ms j) 6 node ∷ Operation (operation Add (whole k) one_ℚ) ∷ []) (left_of region j k ∷ right_of region j k ∷ waiting) (is_marked ms j ≡ true)
 unfolding branch_step
 branch_listed ms node region j k waiting =
     before (test (is_marked ms j) 6 node) (λ _. op Add (whole k) one_ℚ >>= λ above. Ok (cut_high region j (whole k) ∷ cut_low region j above ∷ waiting))
@@ -66,26 +66,26 @@ if_crossed [] j c = absurd c
 if_crossed (b ∷ bs) zero c = if_above b c
 if_crossed (b ∷ bs) (suc j) c = if_crossed bs j c
 
-cross_listed : (node : ℕ) (region : Region) (j : ℕ) → Listed (cross_test node region j) (Test (is_above (bounds_at region j).low (bounds_at region j).high) 10 node ∷ []) tt (IsCrossedAt region j)
+cross_listed : {C : Type 0} (node : ℕ) (region : Region) (j : ℕ) → Listed C (cross_test node region j) (Test (is_above (bounds_at region j).low (bounds_at region j).high) 10 node ∷ []) tt (IsCrossedAt region j)
 unfolding cross_test
 cross_listed node region j = tested (is_above (bounds_at region j).low (bounds_at region j).high) 10 node (crossed_if region j) (if_crossed region j)
 
-pub nodes_listed : (p : Program) (v : Option ℚ) (nodes : List Node) (node : ℕ) (regions : List Region) → length p.rows ≡ length (sides p) → AreTrees (length regions) nodes → AllByRecursion (FitsNode p) nodes → Listed (nodes_from p v node regions nodes) (nodes_list p v node regions nodes) tt (AreGood p v regions nodes)
+pub nodes_listed : {C : Type 0} (p : Program) (v : Option ℚ) (nodes : List Node) (node : ℕ) (regions : List Region) → length p.rows ≡ length (sides p) → (C → AreTrees (length regions) nodes) → (C → AllByRecursion (FitsNode p) nodes) → Listed C (nodes_from p v node regions nodes) (nodes_list p v node regions nodes) tt (AreGood p v regions nodes)
 nodes_listed p v [] node [] r trees fit = done tt tt
-nodes_listed p v [] node (region ∷ waiting) r trees fit = absurd trees
-nodes_listed p v (n ∷ ns) node [] r trees fit = absurd trees
+nodes_listed p v [] node (region ∷ waiting) r trees fit = vacuous tt trees
+nodes_listed p v (n ∷ ns) node [] r trees fit = vacuous tt trees
 nodes_listed p v (Branch j k ∷ ns) node (region ∷ waiting) r trees fit =
     joined (branch_step (marks p) node region j k waiting) (λ after. nodes_from p v (suc node) after ns) (branch_listed (marks p) node region j k waiting)
-    (nodes_listed p v ns (suc node) (left_of region j k ∷ right_of region j k ∷ waiting) r trees fit.1)
+    (nodes_listed p v ns (suc node) (left_of region j k ∷ right_of region j k ∷ waiting) r trees (λ c. (fit c).1))
 nodes_listed p v (Bound w y ∷ ns) node (region ∷ waiting) r trees fit =
     joined (bound_test p v node region w y >>= λ _. Ok waiting) (λ after. nodes_from p v (suc node) after ns)
-    (turned (bound_test p v node region w y) (λ _. waiting) (bound_listed p v node region w y (fit.0.1 ∙ r)))
-    (nodes_listed p v ns (suc node) waiting r trees fit.1)
+    (turned (bound_test p v node region w y) (λ _. waiting) (bound_listed p v node region w y (λ c. (fit c).0.1 ∙ r)))
+    (nodes_listed p v ns (suc node) waiting r trees (λ c. (fit c).1))
 nodes_listed p v (Farkas y ∷ ns) node (region ∷ waiting) r trees fit =
     joined (farkas_test p node region y >>= λ _. Ok waiting) (λ after. nodes_from p v (suc node) after ns)
-    (turned (farkas_test p node region y) (λ _. waiting) (farkas_listed p node region y (fit.0 ∙ r)))
-    (nodes_listed p v ns (suc node) waiting r trees fit.1)
+    (turned (farkas_test p node region y) (λ _. waiting) (farkas_listed p node region y (λ c. (fit c).0 ∙ r)))
+    (nodes_listed p v ns (suc node) waiting r trees (λ c. (fit c).1))
 nodes_listed p v (Cross j ∷ ns) node (region ∷ waiting) r trees fit =
     joined (cross_test node region j >>= λ _. Ok waiting) (λ after. nodes_from p v (suc node) after ns)
     (turned (cross_test node region j) (λ _. waiting) (cross_listed node region j))
-    (nodes_listed p v ns (suc node) waiting r trees fit.1)
+    (nodes_listed p v ns (suc node) waiting r trees (λ c. (fit c).1))

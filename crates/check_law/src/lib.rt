@@ -36,7 +36,7 @@ pub enum Checked {
 /// The calculation ends with the event of the first entry of its list that is past or doesn't hold, and without an event where
 /// there is none.
 pub fn check_ends_with_its_first_event()
-    ensures { (p : Program) (c : Certificate) → IsProgram p → Fits p c → EndsAs (check_list p c) (checked p c) }
+    ensures { (p : Program) (c : Certificate) → EndsAs (check_list p c) (checked p c) }
 {}
 
 /// All tests of the list hold where the certificate is good, and nowhere else, whichever of its operations are past.
