@@ -27,7 +27,7 @@ use Rattle.check_law.specs.Dot.{dot_of}
 use Rattle.check_law.specs.Value.{half_form}
 use Rattle.check_law.specs.Leaf.{needed, with_side, with_rows, gradient_at, no_gradient_at, with_column, with_columns, leaf_sum, farkas_test, reaches, bound_test}
 use Rattle.check_law.specs.Entries.{Test, Holds}
-use Rattle.check_law.specs.LeafList.{side_list, multiplier_list, rows_list, gradient_ops, no_ops, column_list, columns_list, sum_list, farkas_list, bound_list}
+use Rattle.check_law.specs.LeafList.{needed_list, with_side_list, with_rows_list, gradient_at_ops, no_gradient_ops, with_column_list, with_columns_list, leaf_sum_list, farkas_list, bound_list}
 use Rattle.check_law.proofs.Listed.{stopped, Listed, Works, done, vacuous, joined, after, and_then, converted, of_value, chosen, tested, operated}
 use Rattle.check_law.proofs.Dots.{dot_listed}
 use Rattle.check_law.proofs.Products.{half_listed, nothing_left, plus_nothing}
@@ -40,7 +40,7 @@ no e = absurd (clash e)
     clash e = cc
 
 -- a side that is to be there, and the sum with it
-needed_listed : {C : Type 0} (node : ℕ) (sum y : ℚ) (o : Option ℚ) → Listed C (needed node o >>= λ side. op Mul y side >>= λ t. op Add sum t) (side_list node sum y o) (sum +ℚ y *ℚ unwrap_or o zero_ℚ) (IsSome o)
+needed_listed : {C : Type 0} (node : ℕ) (sum y : ℚ) (o : Option ℚ) → Listed C (needed node o >>= λ side. op Mul y side >>= λ t. op Add sum t) (needed_list node sum y o) (sum +ℚ y *ℚ unwrap_or o zero_ℚ) (IsSome o)
 needed_listed node sum y None = record {
   ends = stopped (Test false 7 node) [] (λ h. no h);
   tells = λ c a. All-head Holds (Test false 7 node) [] a;
@@ -89,11 +89,11 @@ side_there y s z h = by (is_positive y) refl (is_negative y) refl
     by false e true f = h.high f
     by false e false f = no (sym z ∙ zero_between y e f)
 
-multiplier_listed : {C : Type 0} (node : ℕ) (sum y : ℚ) (s : Row) → Listed C (with_side node sum y s) (multiplier_list node sum y s) (sum +ℚ y *ℚ unwrap_or (side_for y s) zero_ℚ) (HasSide y s)
+multiplier_listed : {C : Type 0} (node : ℕ) (sum y : ℚ) (s : Row) → Listed C (with_side node sum y s) (with_side_list node sum y s) (sum +ℚ y *ℚ unwrap_or (side_for y s) zero_ℚ) (HasSide y s)
 unfolding with_side
 multiplier_listed node sum y s =
     let side = unwrap_or (side_for y s) zero_ℚ in
-    chosen (is_zero y) (Ok sum) (needed node (side_for y s) >>= λ side. op Mul y side >>= λ t. op Add sum t) [] (side_list node sum y (side_for y s))
+    chosen (is_zero y) (Ok sum) (needed node (side_for y s) >>= λ side. op Mul y side >>= λ t. op Add sum t) [] (needed_list node sum y (side_for y s))
     (λ e. of_value (Ok sum) (plus_nothing sum (y *ℚ side) (nothing_left y side e)) (done sum (no_side y s e)))
     (λ e. converted (needed node (side_for y s) >>= λ side. op Mul y side >>= λ t. op Add sum t) (λ c. has_side y s) (λ c. side_there y s e) (needed_listed node sum y (side_for y s)))
 
@@ -101,7 +101,7 @@ multiplier_listed node sum y s =
 goes_on : (sum a b : ℚ) → (sum +ℚ a) +ℚ b ≡ sum +ℚ (a +ℚ b)
 goes_on sum a b = ring_by (sum ∷ a ∷ b ∷ []) ((x0 ⊕ x1) ⊕ x2) (x0 ⊕ (x1 ⊕ x2)) refl
 
-rows_listed : {C : Type 0} (node : ℕ) (sum : ℚ) (ys : List ℚ) (ss : List Row) → (C → length ys ≡ length ss) → Listed C (with_rows node sum ys ss) (rows_list node sum ys ss) (sum +ℚ sides_sum ys ss) (HaveSides ys ss)
+rows_listed : {C : Type 0} (node : ℕ) (sum : ℚ) (ys : List ℚ) (ss : List Row) → (C → length ys ≡ length ss) → Listed C (with_rows node sum ys ss) (with_rows_list node sum ys ss) (sum +ℚ sides_sum ys ss) (HaveSides ys ss)
 rows_listed node sum [] ss n = of_value (Ok sum) (plus_nothing sum zero_ℚ refl) (done sum tt)
 rows_listed node sum (y ∷ ys) [] n = of_value (Ok sum) (plus_nothing sum zero_ℚ refl) (vacuous sum (λ c. longer y ys (n c)))
 rows_listed node sum (y ∷ ys) (s ∷ ss) n =
@@ -110,7 +110,7 @@ rows_listed node sum (y ∷ ys) (s ∷ ss) n =
     (joined (with_side node sum y s) (λ u. with_rows node u ys ss) (multiplier_listed node sum y s) (rows_listed node (sum +ℚ term) ys ss (λ c. shorter y ys s ss (n c))))
 
 module _ (C : Type 0) (node : ℕ) (g : ℕ → Result ℚ Event) (ops : ℕ → List Refused) (slope : ℕ → ℚ) (g_listed : (j : ℕ) → Works C (g j) (ops j) (slope j)) (rows : List (List ℚ)) (y : List ℚ) where
-  column_listed : (j : ℕ) (sum : ℚ) (b : Row) → let s = slope j -ℚ dot (column rows j) y in Listed C (with_column node g rows y j sum b) (column_list node ops slope rows y j sum b) (sum +ℚ s *ℚ unwrap_or (side_for s b) zero_ℚ) (HasSide s b)
+  column_listed : (j : ℕ) (sum : ℚ) (b : Row) → let s = slope j -ℚ dot (column rows j) y in Listed C (with_column node g rows y j sum b) (with_column_list node ops slope rows y j sum b) (sum +ℚ s *ℚ unwrap_or (side_for s b) zero_ℚ) (HasSide s b)
   unfolding with_column
   column_listed j sum b =
       let a = dot (column rows j) y in
@@ -118,7 +118,7 @@ module _ (C : Type 0) (node : ℕ) (g : ℕ → Result ℚ Event) (ops : ℕ →
       (after (dot_of (column rows j) y) (λ a. op Sub (slope j) a >>= λ s. with_side node sum s b) (dot_listed (column rows j) y)
       (after (op Sub (slope j) a) (λ s. with_side node sum s b) (operated Sub (slope j) a) (multiplier_listed node sum (slope j -ℚ a) b)))
 
-  pub columns_listed : (j : ℕ) (sum : ℚ) (bs : Region) → let s = residual_from slope rows y j bs in Listed C (with_columns node g rows y j sum bs) (columns_list node ops slope rows y j sum bs) (sum +ℚ sides_sum s bs) (HaveSides s bs)
+  pub columns_listed : (j : ℕ) (sum : ℚ) (bs : Region) → let s = residual_from slope rows y j bs in Listed C (with_columns node g rows y j sum bs) (with_columns_list node ops slope rows y j sum bs) (sum +ℚ sides_sum s bs) (HaveSides s bs)
   columns_listed j sum [] = of_value (Ok sum) (plus_nothing sum zero_ℚ refl) (done sum tt)
   columns_listed j sum (b ∷ bs) =
       let s = slope j -ℚ dot (column rows j) y in
@@ -127,7 +127,7 @@ module _ (C : Type 0) (node : ℕ) (g : ℕ → Result ℚ Event) (ops : ℕ →
       (joined (with_column node g rows y j sum b) (λ u. with_columns node g rows y (suc j) u bs) (column_listed j sum b)
       (columns_listed (suc j) (sum +ℚ term) bs))
 
-sum_listed : {C : Type 0} (p : Program) (node : ℕ) (g : ℕ → Result ℚ Event) (ops : ℕ → List Refused) (slope : ℕ → ℚ) → ((j : ℕ) → Works C (g j) (ops j) (slope j)) → (region : Region) (y : List ℚ) → (C → length y ≡ length (sides p)) → Listed C (leaf_sum p node g region y) (sum_list p node ops slope region y) (total p slope region y) (HasAllSides p slope region y)
+sum_listed : {C : Type 0} (p : Program) (node : ℕ) (g : ℕ → Result ℚ Event) (ops : ℕ → List Refused) (slope : ℕ → ℚ) → ((j : ℕ) → Works C (g j) (ops j) (slope j)) → (region : Region) (y : List ℚ) → (C → length y ≡ length (sides p)) → Listed C (leaf_sum p node g region y) (leaf_sum_list p node ops slope region y) (total p slope region y) (HasAllSides p slope region y)
 unfolding leaf_sum
 sum_listed {C = C} p node g ops slope h region y n =
     let u = sides_sum y (sides p) in
@@ -143,10 +143,10 @@ farkas_listed p node region y n =
     let s = total p no_gradient region y in
     converted (leaf_sum p node no_gradient_at region y >>= λ s. test (is_positive s) 9 node)
     (λ c t. record { has_sides = t.0; above = t.1 }) (λ c t. (t.has_sides, t.above))
-    (joined (leaf_sum p node no_gradient_at region y) (λ s. test (is_positive s) 9 node) (sum_listed p node no_gradient_at no_ops no_gradient (λ j. done zero_ℚ tt) region y n)
+    (joined (leaf_sum p node no_gradient_at region y) (λ s. test (is_positive s) 9 node) (sum_listed p node no_gradient_at no_gradient_ops no_gradient (λ j. done zero_ℚ tt) region y n)
     (tested (is_positive s) 9 node (positive_above s) (above_positive s)))
 
-gradient_listed : {C : Type 0} (p : Program) (w : List ℚ) (j : ℕ) → Works C (gradient_at p.pairs p.costs w j) (gradient_ops p w j) (gradient p w j)
+gradient_listed : {C : Type 0} (p : Program) (w : List ℚ) (j : ℕ) → Works C (gradient_at p.pairs p.costs w j) (gradient_at_ops p w j) (gradient p w j)
 unfolding gradient_at
 gradient_listed p w j =
     and_then (dot_ops (row_at p.pairs j) w) (operation Add (dot (row_at p.pairs j) w) (at p.costs j) ∷ []) (dot_of (row_at p.pairs j) w) (λ t. op Add t (at p.costs j)) (dot_listed (row_at p.pairs j) w) (operated Add (dot (row_at p.pairs j) w) (at p.costs j))
@@ -165,7 +165,7 @@ bound_listed p v node region w y n =
     let s = total p (gradient p w) region y in let h = half *ℚ form p.pairs w w in let low = lower_bound p region w y in
     converted (bound_test p v node region w y) (λ c. good_if p v region w y) (λ c. if_good p v region w y)
     (joined (leaf_sum p node (gradient_at p.pairs p.costs w) region y) (λ s. half_form p.pairs w >>= λ half. op Sub p.constant half >>= λ a. op Add a s >>= λ low. test (reaches v low) 8 node)
-    (sum_listed p node (gradient_at p.pairs p.costs w) (gradient_ops p w) (gradient p w) (gradient_listed p w) region y n)
+    (sum_listed p node (gradient_at p.pairs p.costs w) (gradient_at_ops p w) (gradient p w) (gradient_listed p w) region y n)
     (after (half_form p.pairs w) (λ half. op Sub p.constant half >>= λ a. op Add a s >>= λ low. test (reaches v low) 8 node) (half_listed p.pairs w)
     (after (op Sub p.constant h) (λ a. op Add a s >>= λ low. test (reaches v low) 8 node) (operated Sub p.constant h)
     (after (op Add (p.constant -ℚ h) s) (λ low. test (reaches v low) 8 node) (operated Add (p.constant -ℚ h) s)

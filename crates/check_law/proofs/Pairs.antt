@@ -18,11 +18,11 @@ use Rattle.certificate_law.specs.Squares.{squares_sum, AreSquaresOf}
 use Rattle.check_law.specs.Chain.{◌>>=◌, op, test}
 use Rattle.check_law.specs.Squares.{with_square, squares_from, pair_test, pairs_in_row, pairs_from, squares_test}
 use Rattle.check_law.specs.Fits.{FitsSquares}
-use Rattle.check_law.specs.SquaresList.{square_ops, squares_ops, pair_list, pairs_list, columns_list, squares_list}
+use Rattle.check_law.specs.SquaresList.{with_square_ops, squares_from_ops, pair_list, pairs_in_row_list, pairs_from_list, squares_list}
 use Rattle.check_law.proofs.Listed.{Listed, Works, done, joined, after, and_then, converted, of_value, tested, operated}
 use Rattle.check_law.proofs.Products.{either, nothing_right, plus_nothing}
 
-square_listed : {C : Type 0} (sum weight a b : ℚ) → Works C (with_square sum weight a b) (square_ops sum weight a b) (sum +ℚ weight *ℚ a *ℚ b)
+square_listed : {C : Type 0} (sum weight a b : ℚ) → Works C (with_square sum weight a b) (with_square_ops sum weight a b) (sum +ℚ weight *ℚ a *ℚ b)
 unfolding with_square
 square_listed {C = C} sum weight a b = by (is_zero a || is_zero b) refl
   where
@@ -36,12 +36,12 @@ square_listed {C = C} sum weight a b = by (is_zero a || is_zero b) refl
         and_then (operation Mul weight a ∷ []) (operation Mul (weight *ℚ a) b ∷ operation Add sum (weight *ℚ a *ℚ b) ∷ []) (op Mul weight a) (λ s. op Mul s b >>= λ t. op Add sum t) (operated Mul weight a)
         (and_then (operation Mul (weight *ℚ a) b ∷ []) (operation Add sum (weight *ℚ a *ℚ b) ∷ []) (op Mul (weight *ℚ a) b) (λ t. op Add sum t) (operated Mul (weight *ℚ a) b) (operated Add sum (weight *ℚ a *ℚ b)))
 
-sum_listed : {C : Type 0} (sum : ℚ) (ss : List Square) (j k : ℕ) → Works C (squares_from sum ss j k) (squares_ops sum ss j k) (sum +ℚ squares_sum ss j k)
+sum_listed : {C : Type 0} (sum : ℚ) (ss : List Square) (j k : ℕ) → Works C (squares_from sum ss j k) (squares_from_ops sum ss j k) (sum +ℚ squares_sum ss j k)
 sum_listed sum [] j k = of_value (Ok sum) (plus_nothing sum zero_ℚ refl) (done sum tt)
 sum_listed sum (s ∷ ss) j k =
     let term = s.weight *ℚ at s.coef j *ℚ at s.coef k in
     of_value (squares_from sum (s ∷ ss) j k) (ring_by (sum ∷ term ∷ squares_sum ss j k ∷ []) ((x0 ⊕ x1) ⊕ x2) (x0 ⊕ (x1 ⊕ x2)) refl)
-    (and_then (square_ops sum s.weight (at s.coef j) (at s.coef k)) (squares_ops (sum +ℚ term) ss j k) (with_square sum s.weight (at s.coef j) (at s.coef k)) (λ t. squares_from t ss j k) (square_listed sum s.weight (at s.coef j) (at s.coef k))
+    (and_then (with_square_ops sum s.weight (at s.coef j) (at s.coef k)) (squares_from_ops (sum +ℚ term) ss j k) (with_square sum s.weight (at s.coef j) (at s.coef k)) (λ t. squares_from t ss j k) (square_listed sum s.weight (at s.coef j) (at s.coef k))
     (sum_listed (sum +ℚ term) ss j k))
 
 -- Q and the squares agree at two places
@@ -66,13 +66,13 @@ AgreeFrom : List (List ℚ) → List Square → ℕ → ℕ → Type 0
 AgreeFrom q ss j zero = Unit {0}
 AgreeFrom q ss j (suc more) = AgreeInRow q ss j j (suc more) × AgreeFrom q ss (suc j) more
 
-row_listed : {C : Type 0} (q : List (List ℚ)) (ss : List Square) (j k more : ℕ) → Listed C (pairs_in_row q ss j k more) (pairs_list q ss j k more) tt (AgreeInRow q ss j k more)
+row_listed : {C : Type 0} (q : List (List ℚ)) (ss : List Square) (j k more : ℕ) → Listed C (pairs_in_row q ss j k more) (pairs_in_row_list q ss j k more) tt (AgreeInRow q ss j k more)
 unfolding AgreeInRow
 row_listed q ss j k zero = done tt tt
 row_listed q ss j k (suc more) =
     joined (pair_test q ss j k) (λ _. pairs_in_row q ss j (suc k) more) (pair_listed q ss j k) (row_listed q ss j (suc k) more)
 
-from_listed : {C : Type 0} (q : List (List ℚ)) (ss : List Square) (j more : ℕ) → Listed C (pairs_from q ss j more) (columns_list q ss j more) tt (AgreeFrom q ss j more)
+from_listed : {C : Type 0} (q : List (List ℚ)) (ss : List Square) (j more : ℕ) → Listed C (pairs_from q ss j more) (pairs_from_list q ss j more) tt (AgreeFrom q ss j more)
 unfolding AgreeFrom
 from_listed q ss j zero = done tt tt
 from_listed q ss j (suc more) =

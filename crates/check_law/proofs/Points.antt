@@ -14,7 +14,7 @@ use Rattle.program_law.specs.Columns.{AllWithin, IsWhole, AreWholeOn, IsPoint}
 use Rattle.check_law.specs.Chain.{◌>>=◌, test}
 use Rattle.check_law.specs.Dot.{dot_of}
 use Rattle.check_law.specs.Point.{is_above_low, is_below_high, is_within, keeps_mark, row_within, rows_within, column_within, columns_within, point_test}
-use Rattle.check_law.specs.PointList.{row_list, rows_list, column_list, columns_list, point_list}
+use Rattle.check_law.specs.PointList.{row_within_list, rows_within_list, column_within_list, columns_within_list, point_list}
 use Rattle.check_law.proofs.Settled.{Settles}
 use Rattle.check_law.proofs.Listed.{Listed, done, vacuous, joined, after, converted, tested, settled}
 use Rattle.check_law.proofs.Dots.{dot_listed}
@@ -64,13 +64,13 @@ mark_tells false x = (λ e f. absurd (no f), λ h. refl)
     no : false ≡ true → ⊥
     no e = cc
 
-row_listed : {C : Type 0} (place : ℕ) (s : Row) (row x : List ℚ) → Listed C (row_within place s row x) (row_list place s row x) tt (IsWithin s (dot row x))
+row_listed : {C : Type 0} (place : ℕ) (s : Row) (row x : List ℚ) → Listed C (row_within place s row x) (row_within_list place s row x) tt (IsWithin s (dot row x))
 unfolding row_within
 row_listed place s row x =
     let tells = within_tells s (dot row x) in
     after (dot_of row x) (λ t. test (is_within s t) 1 place) (dot_listed row x) (tested (is_within s (dot row x)) 1 place tells.0 tells.1)
 
-rows_listed : {C : Type 0} (place : ℕ) (ss : List Row) (rows : List (List ℚ)) (x : List ℚ) → (C → length ss ≡ length rows) → Listed C (rows_within place ss rows x) (rows_list place ss rows x) tt (AllWithin ss (times rows x))
+rows_listed : {C : Type 0} (place : ℕ) (ss : List Row) (rows : List (List ℚ)) (x : List ℚ) → (C → length ss ≡ length rows) → Listed C (rows_within place ss rows x) (rows_within_list place ss rows x) tt (AllWithin ss (times rows x))
 rows_listed place [] [] x n = done tt tt
 rows_listed place [] (row ∷ rows) x n = vacuous tt (λ c. longer row rows (sym (n c)))
 rows_listed place (s ∷ ss) [] x n = vacuous tt (λ c. longer s ss (n c))
@@ -78,14 +78,14 @@ rows_listed place (s ∷ ss) (row ∷ rows) x n =
     joined (row_within place s row x) (λ _. rows_within (suc place) ss rows x) (row_listed place s row x)
     (rows_listed (suc place) ss rows x (λ c. shorter s ss row rows (n c)))
 
-column_listed : {C : Type 0} (place : ℕ) (b : Row) (m : Bool) (x : ℚ) → Listed C (column_within place b m x) (column_list place b m x) tt (IsWithin b x × (m ≡ true → IsWhole x))
+column_listed : {C : Type 0} (place : ℕ) (b : Row) (m : Bool) (x : ℚ) → Listed C (column_within place b m x) (column_within_list place b m x) tt (IsWithin b x × (m ≡ true → IsWhole x))
 unfolding column_within
 column_listed place b m x =
     let within = within_tells b x in let mark = mark_tells m x in
     joined (test (is_within b x) 2 place) (λ _. test (keeps_mark m x) 3 place) (tested (is_within b x) 2 place within.0 within.1)
     (tested (keeps_mark m x) 3 place mark.0 mark.1)
 
-columns_listed : {C : Type 0} (place : ℕ) (bs : Region) (ms : List Bool) (xs : List ℚ) → (C → length bs ≡ length xs) → (C → length ms ≡ length xs) → Listed C (columns_within place bs ms xs) (columns_list place bs ms xs) tt (AllWithin bs xs × AreWholeOn ms xs)
+columns_listed : {C : Type 0} (place : ℕ) (bs : Region) (ms : List Bool) (xs : List ℚ) → (C → length bs ≡ length xs) → (C → length ms ≡ length xs) → Listed C (columns_within place bs ms xs) (columns_within_list place bs ms xs) tt (AllWithin bs xs × AreWholeOn ms xs)
 columns_listed place [] [] [] n m = done tt (tt, tt)
 columns_listed place [] (mark ∷ ms) [] n m = vacuous tt (λ c. longer mark ms (m c))
 columns_listed place [] ms (x ∷ xs) n m = vacuous tt (λ c. longer x xs (sym (n c)))

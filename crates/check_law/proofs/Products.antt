@@ -19,7 +19,7 @@ use Rattle.program_law.specs.Columns.{value}
 use Rattle.check_law.specs.Chain.{◌>>=◌, op}
 use Rattle.check_law.specs.Dot.{dot_of}
 use Rattle.check_law.specs.Value.{row_product, row_products, form_of, half_form, two, value_of}
-use Rattle.check_law.specs.ValueList.{product_ops, form_ops, half_ops, value_ops}
+use Rattle.check_law.specs.ValueList.{row_products_ops, form_of_ops, half_form_ops, value_ops}
 use Rattle.check_law.proofs.Settled.{Settles}
 use Rattle.check_law.proofs.Listed.{Works, done, and_then, turned, of_value, operated, settled}
 use Rattle.check_law.proofs.Dots.{same_test, dot_listed}
@@ -57,11 +57,11 @@ entry_listed {C = C} row xj x = by (is_zero xj)
     by true = done zero_ℚ tt
     by false = dot_listed row x
 
-entries_listed : {C : Type 0} (rows : List (List ℚ)) (xs x : List ℚ) → Works C (row_products rows xs x) (product_ops rows xs x) (entries rows xs x)
+entries_listed : {C : Type 0} (rows : List (List ℚ)) (xs x : List ℚ) → Works C (row_products rows xs x) (row_products_ops rows xs x) (entries rows xs x)
 entries_listed [] xs x = done [] tt
 entries_listed (row ∷ rows) [] x = done [] tt
 entries_listed (row ∷ rows) (xj ∷ xs) x =
-    and_then (if is_zero xj then [] else dot_ops row x) (product_ops rows xs x) (row_product row xj x) (λ t. row_products rows xs x >>= λ ts. Ok (t ∷ ts)) (entry_listed row xj x)
+    and_then (if is_zero xj then [] else dot_ops row x) (row_products_ops rows xs x) (row_product row xj x) (λ t. row_products rows xs x >>= λ ts. Ok (t ∷ ts)) (entry_listed row xj x)
     (turned (row_products rows xs x) (λ ts. entry row xj x ∷ ts) (entries_listed rows xs x))
 
 -- where an entry is 0 it doesn't matter what stands there
@@ -97,10 +97,10 @@ entries_form (row ∷ rows) [] x = refl
 entries_form (row ∷ rows) (xj ∷ xs) x =
     ap (λ z. z +ℚ dot xs (entries rows xs x)) (same_product row xj x ∙ *ℚ_comm xj (dot row x)) ∙ ap (λ z. dot row x *ℚ xj +ℚ z) (entries_form rows xs x)
 
-pub form_listed : {C : Type 0} (q : List (List ℚ)) (x : List ℚ) → Works C (form_of q x) (form_ops q x) (form q x x)
+pub form_listed : {C : Type 0} (q : List (List ℚ)) (x : List ℚ) → Works C (form_of q x) (form_of_ops q x) (form q x x)
 unfolding form_of
 form_listed {C = C} q x =
-    and_then (product_ops q x x) (dot_ops x (times q x)) (row_products q x x) (λ t. dot_of x t) (entries_listed q x x)
+    and_then (row_products_ops q x x) (dot_ops x (times q x)) (row_products q x x) (λ t. dot_of x t) (entries_listed q x x)
     (of_value (dot_of x (entries q x x)) (entries_form q x x)
     (subst (λ l. Works C (dot_of x (entries q x x)) l (dot x (entries q x x))) (same_ops zero_ℚ q x x) (dot_listed x (entries q x x))))
 
@@ -108,17 +108,17 @@ by_two : reciprocal two ≡ half
 unfolding reciprocal ratio gcd_of whole
 by_two = same_ℚ _ _ refl refl
 
-pub half_listed : {C : Type 0} (q : List (List ℚ)) (x : List ℚ) → Works C (half_form q x) (half_ops q x) (half *ℚ form q x x)
+pub half_listed : {C : Type 0} (q : List (List ℚ)) (x : List ℚ) → Works C (half_form q x) (half_form_ops q x) (half *ℚ form q x x)
 unfolding half_form
 half_listed q x =
-    and_then (form_ops q x) (operation Div (form q x x) two ∷ []) (form_of q x) (λ h. op Div h two) (form_listed q x)
+    and_then (form_of_ops q x) (operation Div (form q x x) two ∷ []) (form_of q x) (λ h. op Div h two) (form_listed q x)
     (of_value (op Div (form q x x) two) (ap (λ z. form q x x *ℚ z) by_two ∙ *ℚ_comm (form q x x) half) (operated Div (form q x x) two))
 
 pub value_listed : {C : Type 0} (p : Program) (x : List ℚ) → Works C (value_of p x) (value_ops p x) (value p x)
 unfolding value_of
 value_listed p x =
     let h = half *ℚ form p.pairs x x in let l = dot p.costs x in let last = operation Add (h +ℚ l) p.constant ∷ [] in
-    and_then (half_ops p.pairs x) (dot_ops p.costs x ++ (operation Add h l ∷ last)) (half_form p.pairs x) (λ half. dot_of p.costs x >>= λ linear. op Add half linear >>= λ s. op Add s p.constant) (half_listed p.pairs x)
+    and_then (half_form_ops p.pairs x) (dot_ops p.costs x ++ (operation Add h l ∷ last)) (half_form p.pairs x) (λ half. dot_of p.costs x >>= λ linear. op Add half linear >>= λ s. op Add s p.constant) (half_listed p.pairs x)
     (and_then (dot_ops p.costs x) (operation Add h l ∷ last) (dot_of p.costs x) (λ linear. op Add h linear >>= λ s. op Add s p.constant) (dot_listed p.costs x)
     (and_then (operation Add h l ∷ []) last (op Add h l) (λ s. op Add s p.constant) (operated Add h l) (operated Add (h +ℚ l) p.constant)))
 

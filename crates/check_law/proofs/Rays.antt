@@ -15,7 +15,7 @@ use Rattle.check_law.specs.Dot.{dot_of}
 use Rattle.check_law.specs.Ray.{keeps_sides, row_keeps, rows_keep, columns_keep, row_flat, rows_flat, ray_test}
 use Rattle.check_law.specs.Entries.{operations, Test}
 use Rattle.frac_core.specs.Dot.{dot_ops}
-use Rattle.check_law.specs.RayList.{rows_list, columns_list, flat_list, ray_list}
+use Rattle.check_law.specs.RayList.{rows_keep_list, columns_keep_list, rows_flat_list, ray_list}
 use Rattle.check_law.proofs.Listed.{Listed, done, vacuous, joined, after, converted, tested}
 use Rattle.check_law.proofs.Dots.{dot_listed}
 use Rattle.check_law.proofs.Points.{longer, shorter, and_parts, and_both}
@@ -80,7 +80,7 @@ row_listed place s row d =
     let tells = keeps_tells s (dot row d) in
     after (dot_of row d) (λ t. test (keeps_sides s t) 11 place) (dot_listed row d) (tested (keeps_sides s (dot row d)) 11 place tells.0 tells.1)
 
-rows_listed : {C : Type 0} (place : ℕ) (ss : List Row) (rows : List (List ℚ)) (d : List ℚ) → (C → length ss ≡ length rows) → Listed C (rows_keep place ss rows d) (rows_list place ss rows d) tt (AllKeepSides ss (times rows d))
+rows_listed : {C : Type 0} (place : ℕ) (ss : List Row) (rows : List (List ℚ)) (d : List ℚ) → (C → length ss ≡ length rows) → Listed C (rows_keep place ss rows d) (rows_keep_list place ss rows d) tt (AllKeepSides ss (times rows d))
 rows_listed place [] [] d n = done tt tt
 rows_listed place [] (row ∷ rows) d n = vacuous tt (λ c. longer row rows (sym (n c)))
 rows_listed place (s ∷ ss) [] d n = vacuous tt (λ c. longer s ss (n c))
@@ -88,7 +88,7 @@ rows_listed place (s ∷ ss) (row ∷ rows) d n =
     joined (row_keeps place s row d) (λ _. rows_keep (suc place) ss rows d) (row_listed place s row d)
     (rows_listed (suc place) ss rows d (λ c. shorter s ss row rows (n c)))
 
-columns_listed : {C : Type 0} (place : ℕ) (bs : List Row) (ds : List ℚ) → (C → length bs ≡ length ds) → Listed C (columns_keep place bs ds) (columns_list place bs ds) tt (AllKeepSides bs ds)
+columns_listed : {C : Type 0} (place : ℕ) (bs : List Row) (ds : List ℚ) → (C → length bs ≡ length ds) → Listed C (columns_keep place bs ds) (columns_keep_list place bs ds) tt (AllKeepSides bs ds)
 columns_listed place [] [] n = done tt tt
 columns_listed place [] (d ∷ ds) n = vacuous tt (λ c. longer d ds (sym (n c)))
 columns_listed place (b ∷ bs) [] n = vacuous tt (λ c. longer b bs (n c))
@@ -103,7 +103,7 @@ zero_listed place row d =
     after (dot_of row d) (λ t. test (is_zero t) 13 place) (dot_listed row d)
     (tested (is_zero (dot row d)) 13 place (zero_is (dot row d)) (λ e. ap is_zero e ∙ is_zero_zero))
 
-flat_listed : {C : Type 0} (place : ℕ) (rows : List (List ℚ)) (d : List ℚ) → Listed C (rows_flat place rows d) (flat_list place rows d) tt (AreZero (times rows d))
+flat_listed : {C : Type 0} (place : ℕ) (rows : List (List ℚ)) (d : List ℚ) → Listed C (rows_flat place rows d) (rows_flat_list place rows d) tt (AreZero (times rows d))
 flat_listed place [] d = done tt tt
 flat_listed place (row ∷ rows) d =
     joined (row_flat place row d) (λ _. rows_flat (suc place) rows d) (zero_listed place row d) (flat_listed (suc place) rows d)

@@ -8,7 +8,7 @@ use Rattle.program_law.specs.Columns.{value}
 use Rattle.certificate_law.specs.declared.Certificate.{Certificate}
 use Rattle.certificate_law.specs.declared.Certificate.TheVariants.{Optimal, Infeasible, Unbounded, NotConvex}
 use Rattle.check_law.specs.PointList.{point_list}
-use Rattle.check_law.specs.ValueList.{form_ops, value_ops}
+use Rattle.check_law.specs.ValueList.{form_of_ops, value_ops}
 use Rattle.check_law.specs.SquaresList.{squares_list}
 use Rattle.check_law.specs.TreeList.{tree_list}
 use Rattle.check_law.specs.RayList.{ray_list}
@@ -22,4 +22,4 @@ check_list p (Optimal x v squares tree) =
     ++ (operations (value_ops p x) ++ (Test (same_fields (value p x) v) 4 0 ∷ (squares_list p squares ++ tree_list p (Some v) (bounds p) tree)))
 check_list p (Infeasible tree) = tree_list p None (bounds p) tree
 check_list p (Unbounded x d squares) = point_list p (bounds p) x ++ (ray_list p d ++ squares_list p squares)
-check_list p (NotConvex v) = operations (form_ops p.pairs v) ++ Test (is_negative (form p.pairs v v)) 15 0 ∷ []
+check_list p (NotConvex v) = operations (form_of_ops p.pairs v) ++ Test (is_negative (form p.pairs v v)) 15 0 ∷ []

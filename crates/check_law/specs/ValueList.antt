@@ -13,22 +13,22 @@ use Rattle.program_law.specs.Value.{half}
 use Rattle.check_law.specs.Value.{two}
 
 -- the product of each row with x, where the entry at the row's place isn't 0
-abbrev pub product_ops : List (List ℚ) → List ℚ → List ℚ → List Refused
-product_ops [] xs x = []
-product_ops (row ∷ rows) [] x = []
-product_ops (row ∷ rows) (xj ∷ xs) x = (if is_zero xj then [] else dot_ops row x) ++ product_ops rows xs x
+abbrev pub row_products_ops : List (List ℚ) → List ℚ → List ℚ → List Refused
+row_products_ops [] xs x = []
+row_products_ops (row ∷ rows) [] x = []
+row_products_ops (row ∷ rows) (xj ∷ xs) x = (if is_zero xj then [] else dot_ops row x) ++ row_products_ops rows xs x
 
 -- the form x^T Q x: the products, and then x times them
-abbrev pub form_ops : List (List ℚ) → List ℚ → List Refused
-form_ops q x = product_ops q x x ++ dot_ops x (times q x)
+abbrev pub form_of_ops : List (List ℚ) → List ℚ → List Refused
+form_of_ops q x = row_products_ops q x x ++ dot_ops x (times q x)
 
 -- half of it
-abbrev pub half_ops : List (List ℚ) → List ℚ → List Refused
-half_ops q x = form_ops q x ++ operation Div (form q x x) two ∷ []
+abbrev pub half_form_ops : List (List ℚ) → List ℚ → List Refused
+half_form_ops q x = form_of_ops q x ++ operation Div (form q x x) two ∷ []
 
 -- the value: half the form, c x, and their sum, and that plus the constant
 abbrev pub value_ops : Program → List ℚ → List Refused
 value_ops p x =
     let curved = half *ℚ form p.pairs x x in
     let linear = dot p.costs x in
-    half_ops p.pairs x ++ (dot_ops p.costs x ++ (operation Add curved linear ∷ operation Add (curved +ℚ linear) p.constant ∷ []))
+    half_form_ops p.pairs x ++ (dot_ops p.costs x ++ (operation Add curved linear ∷ operation Add (curved +ℚ linear) p.constant ∷ []))
