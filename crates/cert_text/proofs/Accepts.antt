@@ -19,6 +19,7 @@ use Rattle.certificate_law.specs.declared.Certificate.{Certificate}
 use Rattle.certificate_law.specs.Nodes.{AreTrees}
 use Rattle.certificate_law.specs.Squares.{ArePositive}
 use Rattle.check_law.specs.Fits.{FitsNode, HasNoBound, IsColumnVector}
+use Rattle.mps_tokens.specs.declared.words.CertificateWord.TheVariants as words
 use Rattle.cert_text.specs.declared.items.Item.{Item}
 use Rattle.cert_text.specs.declared.items.Item.TheVariants as items
 use Rattle.cert_text.specs.declared.items.Claim.{Claim}
@@ -26,16 +27,18 @@ use Rattle.cert_text.specs.declared.items.Claim.TheVariants.{Optimal, Infeasible
 use Rattle.cert_text.specs.declared.kinds.CertKind.{CertKind}
 use Rattle.cert_text.specs.declared.places.Place.{Place}
 use Rattle.cert_text.specs.declared.draft.Draft.{Draft}
-use Rattle.cert_text.specs.Parts.{parts_of, pieces_of}
-use Rattle.cert_text.specs.Places.{start, after, place_after, may_stand, is_ended, is_optimal}
+use Rattle.cert_fields.specs.Parts.{parts_of, pieces_of}
+use Rattle.cert_text.specs.Grammar.{item_word}
+use Rattle.cert_text.specs.Places.{start, place_after, is_ended}
 use Rattle.cert_text.specs.Faults.{line_fault}
 use Rattle.cert_text.specs.Told.{blank, item_of, with_item, with_coef, with_w, with_y, on_last, told_by, certificate_told}
 use Rattle.cert_text.specs.Reading.{Answer, read_on, read_of, read_claimed, read_pieces, claim_in, Reads}
 use Rattle.cert_text.specs.declared.kinds.CertStop.{CertStop}
 use Rattle.cert_text.specs.History.{Tracks}
 use Rattle.cert_text.specs.Writable.{IsWritable, branch_count}
-use Rattle.cert_text.proofs.Histories.{item_word, tracks, is_tree, start_tracked}
-use Rattle.cert_text.proofs.ItemFields.{fields_of, Accepted}
+use Rattle.cert_text.proofs.Histories.{tracks, is_tree, start_tracked}
+use Rattle.cert_text.proofs.Lands.{is_optimal, can_stand, bound_claim, lands, after_is}
+use Rattle.cert_text.proofs.ItemFields.{fields_of, Accepted, accepted_stands}
 use Rattle.cert_text.proofs.ItemRuns.{MayBound}
 use Rattle.cert_text.proofs.LinesBack.{line_back}
 use Rattle.cert_text.proofs.TextsRead.{Runs, after_all, tell_all, item_text}
@@ -79,11 +82,12 @@ one_more p claim n earlier piece next pieces c rest e = go (is_ended (place_afte
         let item = item_of p (parts_of piece) in
         let more = rest (rw (f, g) at e) in
         let back = line_back p (place_after claim earlier) (parts_of piece) g in
+        let there = after_is (place_after claim earlier) item (accepted_stands p (place_after claim earlier) item back.accepted) in
         let line : piece ≡ join_with_byte 32 (fields_of p item) = sym (join_with_byte-slice_split 32 piece) ∙ ap (join_with_byte 32) (sym back.fields_are) in
         record {
           later = item ∷ more.later;
-          runs = (f, back.accepted, more.runs);
-          ends = more.ends;
+          runs = (f, back.accepted, subst (λ t. Runs p t more.later) there more.runs);
+          ends = subst (λ t. is_ended (after_all t more.later).part ≡ true) there more.ends;
           told = more.told;
           text = ap (λ (l : List ℕ). l ++ 10 ∷ join_with_byte 10 (next ∷ pieces)) line
               ∙ ap (λ (l : List ℕ). join_with_byte 32 (fields_of p item) ++ 10 ∷ l) more.text
@@ -117,19 +121,10 @@ pub record AreVectors (p : Program) (d : Draft) : Type 0 where
   pub direction : length d.direction ≡ length p.columns
 
 vectors_more : (p : Program) (c r : ℕ) (d : Draft) (item : Item) → AreVectors p d → AreVectors p (with_item c r item d)
-vectors_more p c r d (items.Value v) h = record { point = h.point; ray = h.ray; direction = h.direction }
 vectors_more p c r d (items.Point j v) h = record { point = length-set d.point j v ∙ h.point; ray = h.ray; direction = h.direction }
 vectors_more p c r d (items.Ray j v) h = record { point = h.point; ray = length-set d.ray j v ∙ h.ray; direction = h.direction }
 vectors_more p c r d (items.Direction j v) h = record { point = h.point; ray = h.ray; direction = length-set d.direction j v ∙ h.direction }
-vectors_more p c r d (items.Square v) h = record { point = h.point; ray = h.ray; direction = h.direction }
-vectors_more p c r d (items.Coef j v) h = record { point = h.point; ray = h.ray; direction = h.direction }
-vectors_more p c r d (items.Branch j k) h = record { point = h.point; ray = h.ray; direction = h.direction }
-vectors_more p c r d items.Bound h = record { point = h.point; ray = h.ray; direction = h.direction }
-vectors_more p c r d items.Farkas h = record { point = h.point; ray = h.ray; direction = h.direction }
-vectors_more p c r d (items.Cross j) h = record { point = h.point; ray = h.ray; direction = h.direction }
-vectors_more p c r d (items.W j v) h = record { point = h.point; ray = h.ray; direction = h.direction }
-vectors_more p c r d (items.Y i v) h = record { point = h.point; ray = h.ray; direction = h.direction }
-vectors_more p c r d items.End h = h
+vectors_more p c r d item h = record { point = h.point; ray = h.ray; direction = h.direction }
 
 -- squares, so many as are counted
 pub record AreSquares (p : Program) (count : ℕ) (qs : List Square) : Type 0 where
@@ -154,11 +149,7 @@ zeros_count : (n : ℕ) → length (zeros n) ≡ n
 zeros_count zero = refl
 zeros_count (suc n) = ap (λ (n : ℕ). suc n) (zeros_count n)
 
-squares_more : (p : Program) (s : Place) (d : Draft) (item : Item) → Accepted p s item → AreSquares p s.squares d.squares → AreSquares p (after s item).squares (with_item (length p.columns) (length p.rows) item d).squares
-squares_more p s d (items.Value v) a h = h
-squares_more p s d (items.Point j v) a h = h
-squares_more p s d (items.Ray j v) a h = h
-squares_more p s d (items.Direction j v) a h = h
+squares_more : (p : Program) (s : Place) (d : Draft) (item : Item) → Accepted p s item → AreSquares p s.squares d.squares → AreSquares p (lands s item).squares (with_item (length p.columns) (length p.rows) item d).squares
 squares_more p s d (items.Square v) a h =
     let q : Square = record { weight = v; coef = zeros (length p.columns) } in
     let room = below 128 s.squares a.3 in
@@ -174,13 +165,7 @@ squares_more p s d (items.Coef j v) a h = record {
   counted = count_last (with_coef j v) d.squares ∙ h.counted;
   few = h.few;
 }
-squares_more p s d (items.Branch j k) a h = h
-squares_more p s d items.Bound a h = h
-squares_more p s d items.Farkas a h = h
-squares_more p s d (items.Cross j) a h = h
-squares_more p s d (items.W j v) a h = h
-squares_more p s d (items.Y i v) a h = h
-squares_more p s d items.End a h = h
+squares_more p s d item a h = h
 
 -- nodes, with as many branches as are counted
 pub record AreNodes (p : Program) (claim : Claim) (count : ℕ) (ns : List Node) : Type 0 where
@@ -306,21 +291,11 @@ bound_allowed : (b : Bool) (n : Node) → b ≡ true → MayBound b (n ∷ [])
 bound_allowed true n e = tt
 bound_allowed false n e = absurd cc
 
-second_true : (a b : Bool) → (a && b) ≡ true → b ≡ true
-second_true true b e = e
-second_true false b e = absurd cc
-
 add_none : (n : ℕ) → n + 0 ≡ n
 add_none n = omega arith
 
 nodes_more : (p : Program) (claim : Claim) (s : Place) (d : Draft) (item : Item) → s.claim ≡ claim → Accepted p s item → AreNodes p claim s.branches d.nodes
-    → AreNodes p claim (after s item).branches (with_item (length p.columns) (length p.rows) item d).nodes
-nodes_more p claim s d (items.Value v) c a h = h
-nodes_more p claim s d (items.Point j v) c a h = h
-nodes_more p claim s d (items.Ray j v) c a h = h
-nodes_more p claim s d (items.Direction j v) c a h = h
-nodes_more p claim s d (items.Square v) c a h = h
-nodes_more p claim s d (items.Coef j v) c a h = h
+    → AreNodes p claim (lands s item).branches (with_item (length p.columns) (length p.rows) item d).nodes
 nodes_more p claim s d (items.Branch j k) c a h =
     let room = below 20256 s.branches a.3 in
     node_push p claim s.branches 1 d.nodes (nodes.Branch j k) h (a.1, in_range k a.2) refl (omega (arith, room)) (leaf_allowed (is_optimal claim) (nodes.Branch j k) tt)
@@ -328,7 +303,7 @@ nodes_more p claim s d items.Bound c a h =
     let leaf = nodes.Bound (zeros (length p.columns)) (zeros (length p.rows)) in
     let few : s.branches + 0 ≤ 20256 = omega (arith, h.few) in
     subst (λ n. AreNodes p claim n (d.nodes ++ leaf ∷ [])) (add_none s.branches) (node_push p claim s.branches 0 d.nodes leaf h (zeros_count (length p.columns), zeros_count (length p.rows)) refl few
-    (bound_allowed (is_optimal claim) leaf (ap is_optimal (sym c) ∙ second_true _ (is_optimal s.claim) a)))
+    (bound_allowed (is_optimal claim) leaf (ap is_optimal (sym c) ∙ bound_claim s.claim s.part (can_stand s words.Bound a))))
 nodes_more p claim s d items.Farkas c a h =
     let leaf = nodes.Farkas (zeros (length p.rows)) in
     let few : s.branches + 0 ≤ 20256 = omega (arith, h.few) in
@@ -338,7 +313,7 @@ nodes_more p claim s d (items.Cross j) c a h =
     subst (λ n. AreNodes p claim n (d.nodes ++ nodes.Cross j ∷ [])) (add_none s.branches) (node_push p claim s.branches 0 d.nodes (nodes.Cross j) h a.1 refl few (leaf_allowed (is_optimal claim) (nodes.Cross j) tt))
 nodes_more p claim s d (items.W j v) c a h = node_last p claim s.branches (with_w j v) (w_kind p j v) d.nodes h
 nodes_more p claim s d (items.Y i v) c a h = node_last p claim s.branches (with_y i v) (y_kind p i v) d.nodes h
-nodes_more p claim s d items.End c a h = h
+nodes_more p claim s d item c a h = h
 
 -- ---- all of it, item by item
 
@@ -349,37 +324,11 @@ pub record IsGood (p : Program) (claim : Claim) (s : Place) (d : Draft) : Type 0
   pub nodes_are : AreNodes p claim s.branches d.nodes
   pub tracked : Tracks claim s d.nodes
 
-claim_stays : (s : Place) (item : Item) → (after s item).claim ≡ s.claim
+claim_stays : (s : Place) (item : Item) → (lands s item).claim ≡ s.claim
 claim_stays s (items.Value v) = refl
-claim_stays s (items.Point j v) = refl
-claim_stays s (items.Ray j v) = refl
-claim_stays s (items.Direction j v) = refl
-claim_stays s (items.Square v) = refl
-claim_stays s (items.Coef j v) = refl
-claim_stays s (items.Branch j k) = refl
-claim_stays s items.Bound = refl
-claim_stays s items.Farkas = refl
-claim_stays s (items.Cross j) = refl
-claim_stays s (items.W j v) = refl
-claim_stays s (items.Y i v) = refl
-claim_stays s items.End = refl
+claim_stays s item = refl
 
-accepted_stands : (p : Program) (s : Place) (item : Item) → Accepted p s item → may_stand s (item_word item) ≡ true
-accepted_stands p s (items.Value v) a = a.0
-accepted_stands p s (items.Point j v) a = a.stands
-accepted_stands p s (items.Ray j v) a = a.stands
-accepted_stands p s (items.Direction j v) a = a.stands
-accepted_stands p s (items.Square v) a = a.0
-accepted_stands p s (items.Coef j v) a = a.stands
-accepted_stands p s (items.Branch j k) a = a.0
-accepted_stands p s items.Bound a = a
-accepted_stands p s items.Farkas a = a
-accepted_stands p s (items.Cross j) a = a.0
-accepted_stands p s (items.W j v) a = a.stands
-accepted_stands p s (items.Y i v) a = a.stands
-accepted_stands p s items.End a = a
-
-pub good_more : (p : Program) (claim : Claim) (s : Place) (d : Draft) (item : Item) → Accepted p s item → IsGood p claim s d → IsGood p claim (after s item) (with_item (length p.columns) (length p.rows) item d)
+pub good_more : (p : Program) (claim : Claim) (s : Place) (d : Draft) (item : Item) → Accepted p s item → IsGood p claim s d → IsGood p claim (lands s item) (with_item (length p.columns) (length p.rows) item d)
 good_more p claim s d item a h = record {
   claim_is = claim_stays s item ∙ h.claim_is;
   vectors = vectors_more p (length p.columns) (length p.rows) d item h.vectors;
@@ -390,7 +339,7 @@ good_more p claim s d item a h = record {
 
 good_all : (p : Program) (claim : Claim) (s : Place) (d : Draft) (later : List Item) → Runs p s later → IsGood p claim s d → IsGood p claim (after_all s later) (tell_all p d later)
 good_all p claim s d [] r h = h
-good_all p claim s d (item ∷ later) r h = good_all p claim (after s item) (with_item (length p.columns) (length p.rows) item d) later r.2 (good_more p claim s d item r.1 h)
+good_all p claim s d (item ∷ later) r h = good_all p claim (lands s item) (with_item (length p.columns) (length p.rows) item d) later r.2 (good_more p claim s d item r.1 h)
 
 pub good_start : (p : Program) (claim : Claim) → IsGood p claim (start claim) (blank (length p.columns))
 good_start p claim = record {

@@ -1,22 +1,11 @@
 // Laws of the text.
 
 ghost use Rattle.std.specs.Prelude.{◌≡◌, ℕ, List, Ok};
-ghost use Rattle.rational.specs.Rational.{ℚ, Fits};
-ghost use Rattle.frac_core.specs.Parts.{max_part};
-ghost use Rattle.frac_core.specs.Text.{text_of};
 ghost use Rattle.program_law.specs.Program.{Program, IsProgram};
 ghost use Rattle.certificate_law.specs.declared.Certificate.{Certificate};
-ghost use Rattle.cert_text.specs.Numbers.{number_of};
 ghost use Rattle.cert_text.specs.Text.{certificate_text};
 ghost use Rattle.cert_text.specs.Reading.{read_of};
 ghost use Rattle.cert_text.specs.Writable.{IsWritable, NumbersFit};
-
-/// What is written of a number that fits is read as that number, and what is read as a number is what is written of it.
-pub fn numbers_are_read_back()
-    ensures back { (v : ℚ) → Fits max_part v → number_of (text_of v) ≡ Ok v }
-    ensures text { (bytes : List ℕ) (v : ℚ) → number_of bytes ≡ Ok v → text_of v ≡ bytes }
-    ensures fits { (bytes : List ℕ) (v : ℚ) → number_of bytes ≡ Ok v → Fits max_part v }
-{}
 
 /// The text of a certificate is read as that certificate, whatever number its first line has. So it is the text of no other. And a
 /// text that is read as a certificate is the text of that one.
