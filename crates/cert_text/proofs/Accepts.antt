@@ -1,6 +1,6 @@
 -- A text that is read is that of items which are accepted one after another, and tell a certificate that can be written.
 use Rattle.std.proofs.Common.{◌≡◌, ◌≢◌, ℕ, zero, suc, ◌+◌, ◌*◌, ◌^◌, ◌<◌, ◌≤◌, Bool, true, false, List, [], ◌∷◌, ◌++◌, length, Option, Some, None, Result, Ok, Err, refl, sym, ap, ◌∙◌, subst, arith, lit<, append_assoc, ℤ, pos}
-use Rattle.std.specs.Prelude.{◌&&◌, ◌==◌, nat_le, unsigned_abs, neg_ℤ, IfOk}
+use Rattle.std.specs.Prelude.{◌==◌, nat_le, unsigned_abs, neg_ℤ, IfOk}
 use Rattle.std.specs.List.{flat_map, join_with_byte, AllByRecursion}
 use Rattle.std.proofs.lemmas.Bool.{eqb-true}
 use Rattle.std.proofs.lemmas.Bool.Decides.{nat_tests}
@@ -28,7 +28,6 @@ use Rattle.cert_text.specs.declared.kinds.CertKind.{CertKind}
 use Rattle.cert_text.specs.declared.places.Place.{Place}
 use Rattle.cert_text.specs.declared.draft.Draft.{Draft}
 use Rattle.cert_fields.specs.Parts.{parts_of, pieces_of}
-use Rattle.cert_text.specs.Grammar.{item_word}
 use Rattle.cert_text.specs.Places.{start, place_after, is_ended}
 use Rattle.cert_text.specs.Faults.{line_fault}
 use Rattle.cert_text.specs.Told.{blank, item_of, with_item, with_coef, with_w, with_y, on_last, told_by, certificate_told}
@@ -337,7 +336,7 @@ good_more p claim s d item a h = record {
   tracked = tracks claim (length p.columns) (length p.rows) s d item (accepted_stands p s item a) h.tracked;
 }
 
-good_all : (p : Program) (claim : Claim) (s : Place) (d : Draft) (later : List Item) → Runs p s later → IsGood p claim s d → IsGood p claim (after_all s later) (tell_all p d later)
+pub good_all : (p : Program) (claim : Claim) (s : Place) (d : Draft) (later : List Item) → Runs p s later → IsGood p claim s d → IsGood p claim (after_all s later) (tell_all p d later)
 good_all p claim s d [] r h = h
 good_all p claim s d (item ∷ later) r h = good_all p claim (lands s item) (with_item (length p.columns) (length p.rows) item d) later r.2 (good_more p claim s d item r.1 h)
 
@@ -377,7 +376,7 @@ few_branches_of p claim count ns h = omega (arith, h.counted, h.few)
 few_squares_of : (p : Program) (count : ℕ) (qs : List Square) → AreSquares p count qs → length qs ≤ 128
 few_squares_of p count qs h = omega (arith, h.counted, h.few)
 
-writable : (p : Program) (claim : Claim) (s : Place) (d : Draft) → IsGood p claim s d → is_ended s.part ≡ true → IsWritable p (certificate_told claim d)
+pub writable : (p : Program) (claim : Claim) (s : Place) (d : Draft) → IsGood p claim s d → is_ended s.part ≡ true → IsWritable p (certificate_told claim d)
 writable p Optimal s d h e =
     let tree = is_tree Optimal s d.nodes h.tracked e in
     record {

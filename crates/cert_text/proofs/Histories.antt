@@ -2,9 +2,8 @@
 use Rattle.std.proofs.Common.{◌≡◌, ℕ, zero, suc, ◌+◌, ◌-◌, ◌<◌, ◌≤◌, Bool, true, false, List, [], ◌∷◌, ◌++◌, length, Option, Some, None, refl, sym, ap, ◌∙◌, subst, arith, ℤ}
 use Rattle.rational.specs.Rational.{ℚ}
 use Rattle.program_law.specs.Changes.{zeros}
-use Rattle.std.specs.Prelude.{◌&&◌, ◌==◌, ◌^◌, not, nat_lt}
+use Rattle.std.specs.Prelude.{◌&&◌, ◌==◌, ◌^◌, not}
 use Rattle.std.proofs.lemmas.Bool.{eqb-true}
-use Rattle.std.proofs.lemmas.Bool.Decides.{nat_tests}
 use Rattle.program_law.specs.Program.{Program}
 use Rattle.certificate_law.specs.declared.Node.{Node}
 use Rattle.certificate_law.specs.declared.Node.TheVariants as nodes

@@ -1,6 +1,6 @@
 -- The items of a writable certificate are accepted one after another.
-use Rattle.std.proofs.Common.{◌≡◌, ℕ, zero, suc, ◌+◌, ◌-◌, ◌<◌, ◌≤◌, Bool, true, false, List, [], ◌∷◌, ◌++◌, length, refl, sym, ap, ◌∙◌, subst, arith}
-use Rattle.std.specs.Prelude.{◌&&◌, ◌||◌, nat_lt, nat_le, if◌then◌else◌}
+use Rattle.std.proofs.Common.{◌≡◌, ℕ, zero, suc, ◌+◌, ◌-◌, ◌<◌, ◌≤◌, Bool, true, false, List, [], ◌∷◌, ◌++◌, length, refl, sym, ◌∙◌, subst, arith}
+use Rattle.std.specs.Prelude.{nat_lt, nat_le, if◌then◌else◌}
 use Rattle.std.specs.List.{flat_map, AllByRecursion}
 use Rattle.std.proofs.lemmas.Bool.Decides.{nat_tests}
 use Rattle.std.proofs.Math.Nat.{le_refl}
@@ -178,7 +178,7 @@ pub record IsNode (s t : Place) (wanted branches : ℕ) : Type 0 where
   pub branches_is : t.branches ≡ branches
   pub ends : can t.claim t.part words.End ≡ true
 
-some_wanted : (n : ℕ) → 0 < n → nat_lt 0 n ≡ true
+pub some_wanted : (n : ℕ) → 0 < n → nat_lt 0 n ≡ true
 some_wanted n p = grind (arith, nat_tests)
 
 -- END may stand there, if nothing is wanted

@@ -1,6 +1,6 @@
 -- Which lines may stand where, and where they lead, by cases over the table of the grammar.
-use Rattle.std.proofs.Common.{◌≡◌, ℕ, ◌+◌, ◌<◌, ◌≤◌, Bool, true, false, Option, Some, None, refl, ap, subst, arith}
-use Rattle.std.specs.Prelude.{◌&&◌, ◌==◌, nat_lt, is_some, unwrap_or}
+use Rattle.std.proofs.Common.{◌≡◌, ℕ, ◌<◌, Bool, true, false, refl, ap, subst, arith}
+use Rattle.std.specs.Prelude.{◌&&◌, nat_lt, is_some, unwrap_or}
 use Rattle.std.proofs.lemmas.Bool.Decides.{nat_tests}
 use Rattle.mps_tokens.specs.declared.words.CertificateWord.{CertificateWord}
 use Rattle.mps_tokens.specs.declared.words.CertificateWord.TheVariants as words
@@ -114,6 +114,9 @@ is_value_word word = false
 
 pub amid_part : (claim : Claim) (part : Part) (word : CertificateWord) → is_value_word word ≡ false → can claim part word ≡ true → is_amid part ≡ true
 amid_part claim part word w e = grind arith
+
+pub amid_end : (claim : Claim) (part : Part) → is_amid part ≡ true → can claim part words.End ≡ true
+amid_end claim part e = grind arith
 
 pub ray_part : (claim : Claim) (part : Part) → can claim part words.Ray ≡ true → is_ray_part part ≡ true
 ray_part claim part e = grind arith

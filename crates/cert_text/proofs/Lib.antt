@@ -15,3 +15,4 @@ pub mod Accepts
 pub mod Shown
 pub mod ShownRuns
 pub mod TextBack
+pub mod Fronts

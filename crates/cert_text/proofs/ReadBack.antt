@@ -1,6 +1,6 @@
 -- The text of a certificate is read as that certificate.
 use Rattle.std.proofs.Common.{◌≡◌, ℕ, suc, ◌+◌, ◌≤◌, Bool, true, false, List, [], ◌∷◌, ◌++◌, length, map, drop, Some, Ok, refl, sym, ap, ◌∙◌, subst, arith, codes}
-use Rattle.std.specs.Prelude.{◌||◌, ◌==◌, if◌then◌else◌}
+use Rattle.std.specs.Prelude.{if◌then◌else◌}
 use Rattle.std.specs.List.{flat_map, AllByRecursion}
 use Rattle.std.proofs.Math.Nat.{le_refl}
 use Rattle.std.proofs.Math.Seq.{drop-cons}
@@ -144,9 +144,9 @@ lines_of_items p (i ∷ is) = ap (λ (t : List ℕ). item_text p i ++ t) (lines_
 
 -- ---- they are accepted to the end
 
-record Finishes (p : Program) (s : Place) (is : List Item) : Type 0 where
-  runs : Runs p s is
-  ends : is_ended (after_all s is).part ≡ true
+pub record Finishes (p : Program) (s : Place) (is : List Item) : Type 0 where
+  pub runs : Runs p s is
+  pub ends : is_ended (after_all s is).part ≡ true
 
 finish_then : (p : Program) (s : Place) (xs ys : List Item) → Runs p s xs → Finishes p (after_all s xs) ys → Finishes p s (xs ++ ys)
 finish_then p s xs ys a b = record { runs = runs_append p s xs ys a b.runs; ends = ap (λ (s : Place). is_ended s.part) (after_append s xs ys) ∙ b.ends }

@@ -52,7 +52,7 @@ no_line p claim n earlier s d text whole h pieces e all =
 -- ---- behind END
 
 -- no byte is left
-abbrev is_last : List (List ℕ) → Bool
+abbrev pub is_last : List (List ℕ) → Bool
 is_last [] = false
 is_last (piece ∷ pieces) = is_nil pieces && (length piece == 0)
 
@@ -61,7 +61,7 @@ more_last b [] = ne_eqb (length (b ∷ [])) 0 (λ e. omega arith)
 more_last b (p ∷ []) = ne_eqb (length (b ∷ p)) 0 (λ e. omega arith)
 more_last b (p ∷ q ∷ ps) = refl
 
-not_last : (b : ℕ) (bs : List ℕ) → is_last (pieces_of (b ∷ bs)) ≡ false
+pub not_last : (b : ℕ) (bs : List ℕ) → is_last (pieces_of (b ∷ bs)) ≡ false
 not_last b bs = go (is_byte 10 b)
   where
     go : (t : Bool) → is_last (if t then [] ∷ pieces_of bs else onto_first b (pieces_of bs)) ≡ false
@@ -74,7 +74,7 @@ ends p claim n earlier s d text whole c h none e told all =
     let here : read_on p claim n earlier (pieces_of text) ≡ Ok (certificate_told claim (told_by p earlier)) = rw (none, ended p claim earlier s d true h e) refl in
     sym all ∙ here ∙ ap Ok (sym (told ∙ ap (certificate_told claim) h.draft))
 
-read_ended : (p : Program) (claim : Claim) (n : ℕ) (earlier : List Item) (pieces : List (List ℕ)) → is_ended (place_after claim earlier).part ≡ true → HasFirst pieces → is_last pieces ≡ false → read_on p claim n earlier pieces ≡ Err (n, kinds.CertAfter)
+pub read_ended : (p : Program) (claim : Claim) (n : ℕ) (earlier : List Item) (pieces : List (List ℕ)) → is_ended (place_after claim earlier).part ≡ true → HasFirst pieces → is_last pieces ≡ false → read_on p claim n earlier pieces ≡ Err (n, kinds.CertAfter)
 read_ended p claim n earlier [] e f last = absurd (none f.parts_are)
   where
     none : [] ≡ f.first ∷ f.others → ⊥

@@ -126,7 +126,7 @@ fields_clear p s items.End h a = (word_clear (codes "END") refl, tt)
 
 -- ---- what is joined is split again
 
-abbrev without : ℕ → ℕ → Bool
+abbrev pub without : ℕ → ℕ → Bool
 without byte b = not (is_byte byte b)
 
 is_other : (byte b : ℕ) → without byte b ≡ true → is_byte byte b ≡ false

@@ -8,3 +8,4 @@ pub mod Reading
 pub mod History
 pub mod Filled
 pub mod Writable
+pub mod Fronts

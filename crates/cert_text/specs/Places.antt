@@ -7,7 +7,7 @@ use Rattle.cert_text.specs.declared.items.Item.TheVariants as items
 use Rattle.cert_text.specs.declared.items.Claim.{Claim}
 use Rattle.cert_text.specs.declared.items.Claim.TheVariants.{Optimal, Infeasible, Unbounded, NotConvex}
 use Rattle.cert_text.specs.declared.grammar.Part.{Part}
-use Rattle.cert_text.specs.declared.grammar.Part.TheVariants.{Value, Points, Rays, Directions, Squares, Nodes, LeafPoint, Multipliers, Ended}
+use Rattle.cert_text.specs.declared.grammar.Part.TheVariants.{Value, Points, Directions, Nodes, LeafPoint, Ended}
 use Rattle.cert_text.specs.declared.places.Place.{Place}
 use Rattle.cert_text.specs.Grammar.{follows, is_due, item_word, next_behind}
 

@@ -1,8 +1,11 @@
 // Laws of the text.
 
-ghost use Rattle.std.specs.Prelude.{◌≡◌, ℕ, List, Ok};
+ghost use Rattle.std.specs.Prelude.{◌≡◌, ◌≢◌, ◌+◌, ◌-◌, ℕ, List, Ok, Err};
 ghost use Rattle.program_law.specs.Program.{Program, IsProgram};
 ghost use Rattle.certificate_law.specs.declared.Certificate.{Certificate};
+ghost use Rattle.cert_text.specs.declared.kinds.CertKind.{CertKind};
+ghost use Rattle.cert_text.specs.declared.kinds.CertKind.TheVariants as kinds;
+ghost use Rattle.cert_text.specs.Fronts.{Begins, IsFront, first_lines};
 ghost use Rattle.cert_text.specs.Text.{certificate_text};
 ghost use Rattle.cert_text.specs.Reading.{read_of};
 ghost use Rattle.cert_text.specs.Writable.{IsWritable, NumbersFit};
@@ -18,4 +21,14 @@ pub fn texts_are_read_back()
         certificate_text p c ≡ text }
     ensures writable { (p : Program) (line : ℕ) (text : List ℕ) (c : Certificate) → read_of p line text ≡ Ok c →
         IsWritable p c }
+{}
+
+/// The line at which a text leaves the grammar is the first that no certificate's text begins with: the lines before it are
+/// the front of one's text, and with it they are the front of none. Where it is missing (`CertEnd`), only the first holds.
+pub fn faults_leave_the_grammar()
+    ensures before { (p : Program) (line : ℕ) (text : List ℕ) (at : ℕ) (kind : CertKind) → read_of p line text ≡ Err (at, kind) →
+        IsFront p (first_lines (at - line) text) }
+    ensures with { (p : Program) (line : ℕ) (text : List ℕ) (at : ℕ) (kind : CertKind) (c : Certificate) → IsProgram p →
+        read_of p line text ≡ Err (at, kind) → kind ≢ kinds.CertEnd → IsWritable p c → NumbersFit c →
+        Begins p c (first_lines (at - line + 1) text) → ⊥ }
 {}

@@ -15,6 +15,6 @@ mod writing;
 
 pub use cert_fields::numbers_are_read_back;
 pub use kinds::{CertKind, CertStop};
-pub use laws::texts_are_read_back;
+pub use laws::{faults_leave_the_grammar, texts_are_read_back};
 pub use reading::read_certificate;
 pub use writing::write_certificate;
