@@ -100,11 +100,11 @@ accepts p claim n earlier (piece ∷ next ∷ pieces) c e = one_more p claim n e
 
 -- ---- what is told can be written
 
-all_push : {A : Type 0} (P : A → Type 0) (xs : List A) (x : A) → AllByRecursion P xs → P x → AllByRecursion P (xs ++ x ∷ [])
+pub all_push : {A : Type 0} (P : A → Type 0) (xs : List A) (x : A) → AllByRecursion P xs → P x → AllByRecursion P (xs ++ x ∷ [])
 all_push P [] x h k = (k, tt)
 all_push P (y ∷ ys) x h k = (h.0, all_push P ys x h.1 k)
 
-all_last : {A : Type 0} (P : A → Type 0) (f : A → A) → ((x : A) → P x → P (f x)) → (xs : List A) → AllByRecursion P xs → AllByRecursion P (on_last f xs)
+pub all_last : {A : Type 0} (P : A → Type 0) (f : A → A) → ((x : A) → P x → P (f x)) → (xs : List A) → AllByRecursion P xs → AllByRecursion P (on_last f xs)
 all_last P f g [] h = h
 all_last P f g (x ∷ []) h = (g x h.0, tt)
 all_last P f g (x ∷ y ∷ ys) h = (h.0, all_last P f g (y ∷ ys) h.1)

@@ -1,13 +1,10 @@
 -- The line at which a text leaves the grammar is the first that no certificate's text begins with.
-use Rattle.std.proofs.Common.{◌≡◌, ◌≢◌, ℕ, zero, suc, ◌+◌, ◌-◌, ◌≤◌, Bool, true, false, List, [], ◌∷◌, ◌++◌, length, Option, Some, None, Result, Ok, Err, refl, sym, ap, ◌∙◌, subst, arith, append_assoc, pos}
-use Rattle.std.specs.Prelude.{◌==◌, unsigned_abs, if◌then◌else◌}
+use Rattle.std.proofs.Common.{◌≡◌, ◌≢◌, ℕ, zero, suc, ◌+◌, ◌-◌, Bool, true, false, List, [], ◌∷◌, ◌++◌, length, Option, Some, None, Ok, Err, refl, sym, ap, ◌∙◌, subst, arith, append_assoc}
+use Rattle.std.specs.Prelude.{◌==◌, if◌then◌else◌}
 use Rattle.std.specs.List.{flat_map, join_with_byte, list_all, onto_first, AllByRecursion}
-use Rattle.std.proofs.lemmas.Bool.Decides.{nat_tests}
 use Rattle.std.proofs.lemmas.List.Splits.{join_with_byte-slice_split}
 use Rattle.std.proofs.lemmas.List.Concat.{flat_map-append}
-use Rattle.rational.specs.Rational.{ℚ, Fits, zero_ℚ}
-use Rattle.rational.proofs.Wholes.{num-whole, den-whole}
-use Rattle.frac_core.specs.Parts.{max_part}
+use Rattle.rational.specs.Rational.{zero_ℚ}
 use Rattle.program_law.specs.Program.{Program, IsProgram}
 use Rattle.certificate_law.specs.declared.Certificate.{Certificate}
 use Rattle.mps_tokens.specs.declared.words.CertificateWord.TheVariants as words
@@ -22,7 +19,6 @@ use Rattle.cert_text.specs.declared.kinds.CertKind.TheVariants as kinds
 use Rattle.cert_text.specs.declared.grammar.Part.{Part}
 use Rattle.cert_text.specs.declared.grammar.Part.TheVariants as parts
 use Rattle.cert_text.specs.declared.places.Place.{Place}
-use Rattle.cert_text.specs.declared.draft.Draft.{Draft}
 use Rattle.cert_text.specs.Text.{certificate_text}
 use Rattle.cert_text.specs.Places.{start, place_after, is_ended}
 use Rattle.cert_text.specs.Faults.{line_fault}
@@ -31,12 +27,13 @@ use Rattle.cert_text.specs.Reading.{Answer, claim_in, fault_or, read_claimed, re
 use Rattle.cert_text.specs.Writable.{IsWritable, NumbersFit}
 use Rattle.cert_text.specs.Fronts.{first_pieces, first_lines, Begins, IsFront}
 use Rattle.cert_text.proofs.Lands.{can, is_amid, lands, after_is, unended, amid_end, end_node}
-use Rattle.cert_text.proofs.ItemFields.{fields_of, Accepted, accepted_stands}
+use Rattle.cert_text.proofs.ItemFields.{fields_of, accepted_stands}
 use Rattle.cert_text.proofs.TextsRead.{Runs, after_all, tell_all, item_text, without, split_behind}
 use Rattle.cert_text.proofs.ItemRuns.{after_append, runs_append, some_wanted}
 use Rattle.cert_text.proofs.LinesBack.{line_back}
 use Rattle.cert_text.proofs.Accepts.{good_all, good_start, writable}
-use Rattle.cert_text.proofs.ReadBack.{Finishes, claim_of, claim_word, items_of, read_back}
+use Rattle.cert_text.proofs.ReadBack.{Finishes, claim_word, items_of, read_back}
+use Rattle.cert_text.proofs.ToldFits.{zero_fits, told_fits}
 use Rattle.cert_text.proofs.Readings.{step, claimed, unclaimed, not_last, read_ended}
 use Rattle.cert_text.proofs.ShownRuns.{later_is}
 use Rattle.cert_text.proofs.TextBack.{claim_back, claim_told, text_of_items}
@@ -193,9 +190,6 @@ record IsEndable (p : Program) (s : Place) : Type 0 where
   rest : List Item
   finishes : Finishes p s rest
 
-zero_fits : Fits max_part zero_ℚ
-zero_fits = (subst (λ (n : ℕ). n ≤ max_part) (sym (ap unsigned_abs (num-whole (pos 0)))) (omega arith), subst (λ (n : ℕ). n ≤ max_part) (sym (den-whole (pos 0))) (omega arith))
-
 endable : (p : Program) (s : Place) → IsEndable p s
 endable p s = go s.part refl
   where
@@ -230,6 +224,7 @@ front_of p claim later r =
     record {
       certificate = c;
       writable = w;
+      numbers = told_fits p claim (start claim) all runs;
       begins = record {
         rest = behind;
         is = text_of_items p c w
@@ -244,7 +239,7 @@ front_of p claim later r =
 none_front : (p : Program) → IsFront p []
 none_front p =
     let h = front_of p NotConvex [] tt in
-    record { certificate = h.certificate; writable = h.writable; begins = record { rest = certificate_text p h.certificate; is = refl } }
+    record { certificate = h.certificate; writable = h.writable; numbers = h.numbers; begins = record { rest = certificate_text p h.certificate; is = refl } }
 
 -- so many lines are the front of a certificate's text, and with the next one no text is read as a certificate
 record HasFault (p : Program) (n : ℕ) (pieces : List (List ℕ)) (at : ℕ) (kind : CertKind) : Type 0 where

@@ -15,4 +15,5 @@ pub mod Accepts
 pub mod Shown
 pub mod ShownRuns
 pub mod TextBack
+pub mod ToldFits
 pub mod Fronts

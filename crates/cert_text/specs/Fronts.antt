@@ -4,7 +4,7 @@ use Rattle.program_law.specs.Program.{Program}
 use Rattle.certificate_law.specs.declared.Certificate.{Certificate}
 use Rattle.cert_fields.specs.Parts.{pieces_of}
 use Rattle.cert_text.specs.Text.{certificate_text}
-use Rattle.cert_text.specs.Writable.{IsWritable}
+use Rattle.cert_text.specs.Writable.{IsWritable, NumbersFit}
 
 -- the text of so many pieces, with a line feed behind each but the last of all
 abbrev pub first_pieces : ℕ → List (List ℕ) → List ℕ
@@ -22,8 +22,9 @@ pub record Begins (p : Program) (c : Certificate) (front : List ℕ) : Type 0 wh
   pub rest : List ℕ
   pub is : certificate_text p c ≡ front ++ rest
 
--- some certificate's text begins so
+-- the text of some certificate whose numbers fit begins so
 pub record IsFront (p : Program) (front : List ℕ) : Type 0 where
   pub certificate : Certificate
   pub writable : IsWritable p certificate
+  pub numbers : NumbersFit certificate
   pub begins : Begins p certificate front
