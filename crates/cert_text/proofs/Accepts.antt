@@ -176,16 +176,12 @@ pub record AreNodes (p : Program) (claim : Claim) (count : ℕ) (ns : List Node)
 branches_push : (ns : List Node) (n : Node) → branch_count (ns ++ n ∷ []) ≡ branch_count ns + branch_count (n ∷ [])
 branches_push [] n = omega arith
 branches_push (nodes.Branch j k ∷ ns) n = let e = branches_push ns n in omega (arith, e)
-branches_push (nodes.Bound w y ∷ ns) n = branches_push ns n
-branches_push (nodes.Farkas y ∷ ns) n = branches_push ns n
-branches_push (nodes.Cross j ∷ ns) n = branches_push ns n
+branches_push (m ∷ ns) n = branches_push ns n
 
 no_bound_push : (ns : List Node) (n : Node) → HasNoBound ns → HasNoBound (n ∷ []) → HasNoBound (ns ++ n ∷ [])
 no_bound_push [] n h k = k
-no_bound_push (nodes.Branch j i ∷ ns) n h k = no_bound_push ns n h k
 no_bound_push (nodes.Bound w y ∷ ns) n h k = absurd h
-no_bound_push (nodes.Farkas y ∷ ns) n h k = no_bound_push ns n h k
-no_bound_push (nodes.Cross j ∷ ns) n h k = no_bound_push ns n h k
+no_bound_push (m ∷ ns) n h k = no_bound_push ns n h k
 
 bound_push : (b : Bool) (ns : List Node) (n : Node) → MayBound b ns → MayBound b (n ∷ []) → MayBound b (ns ++ n ∷ [])
 bound_push true ns n h k = tt
@@ -209,17 +205,13 @@ branches_last : (p : Program) (f : Node → Node) → IsKind p f → (ns : List 
 branches_last p f k [] = refl
 branches_last p f k (n ∷ []) = k.branches n []
 branches_last p f k (nodes.Branch j i ∷ m ∷ ns) = ap (λ n. n + 1) (branches_last p f k (m ∷ ns))
-branches_last p f k (nodes.Bound w y ∷ m ∷ ns) = branches_last p f k (m ∷ ns)
-branches_last p f k (nodes.Farkas y ∷ m ∷ ns) = branches_last p f k (m ∷ ns)
-branches_last p f k (nodes.Cross j ∷ m ∷ ns) = branches_last p f k (m ∷ ns)
+branches_last p f k (n ∷ m ∷ ns) = branches_last p f k (m ∷ ns)
 
 no_bound_last : (p : Program) (f : Node → Node) → IsKind p f → (ns : List Node) → HasNoBound ns → HasNoBound (on_last f ns)
 no_bound_last p f k [] h = h
 no_bound_last p f k (n ∷ []) h = k.bound n h
-no_bound_last p f k (nodes.Branch j i ∷ m ∷ ns) h = no_bound_last p f k (m ∷ ns) h
 no_bound_last p f k (nodes.Bound w y ∷ m ∷ ns) h = absurd h
-no_bound_last p f k (nodes.Farkas y ∷ m ∷ ns) h = no_bound_last p f k (m ∷ ns) h
-no_bound_last p f k (nodes.Cross j ∷ m ∷ ns) h = no_bound_last p f k (m ∷ ns) h
+no_bound_last p f k (n ∷ m ∷ ns) h = no_bound_last p f k (m ∷ ns) h
 
 bound_last : (p : Program) (f : Node → Node) → IsKind p f → (b : Bool) (ns : List Node) → MayBound b ns → MayBound b (on_last f ns)
 bound_last p f k true ns h = tt
@@ -237,43 +229,32 @@ w_kind : (p : Program) (j : ℕ) (v : ℚ) → IsKind p (with_w j v)
 w_kind p j v = record { fits = fits; branches = branches; bound = bound }
   where
     fits : (n : Node) → FitsNode p n → FitsNode p (with_w j v n)
-    fits (nodes.Branch i k) h = h
     fits (nodes.Bound w y) h = (length-set w j v ∙ h.0, h.1)
-    fits (nodes.Farkas y) h = h
-    fits (nodes.Cross i) h = h
+    fits n h = h
 
     branches : (n : Node) (ns : List Node) → branch_count (with_w j v n ∷ ns) ≡ branch_count (n ∷ ns)
     branches (nodes.Branch i k) ns = refl
-    branches (nodes.Bound w y) ns = refl
-    branches (nodes.Farkas y) ns = refl
-    branches (nodes.Cross i) ns = refl
+    branches n ns = refl
 
     bound : (n : Node) → HasNoBound (n ∷ []) → HasNoBound (with_w j v n ∷ [])
     bound (nodes.Branch i k) h = h
-    bound (nodes.Bound w y) h = h
-    bound (nodes.Farkas y) h = h
-    bound (nodes.Cross i) h = h
+    bound n h = h
 
 y_kind : (p : Program) (j : ℕ) (v : ℚ) → IsKind p (with_y j v)
 y_kind p j v = record { fits = fits; branches = branches; bound = bound }
   where
     fits : (n : Node) → FitsNode p n → FitsNode p (with_y j v n)
-    fits (nodes.Branch i k) h = h
     fits (nodes.Bound w y) h = (h.0, length-set y j v ∙ h.1)
     fits (nodes.Farkas y) h = length-set y j v ∙ h
-    fits (nodes.Cross i) h = h
+    fits n h = h
 
     branches : (n : Node) (ns : List Node) → branch_count (with_y j v n ∷ ns) ≡ branch_count (n ∷ ns)
     branches (nodes.Branch i k) ns = refl
-    branches (nodes.Bound w y) ns = refl
-    branches (nodes.Farkas y) ns = refl
-    branches (nodes.Cross i) ns = refl
+    branches n ns = refl
 
     bound : (n : Node) → HasNoBound (n ∷ []) → HasNoBound (with_y j v n ∷ [])
     bound (nodes.Branch i k) h = h
-    bound (nodes.Bound w y) h = h
-    bound (nodes.Farkas y) h = h
-    bound (nodes.Cross i) h = h
+    bound n h = h
 
 -- no branch number is -2^127
 in_range : (k : ℤ) → unsigned_abs k ≤ max_part → k ≢ neg_ℤ (pos (2 ^ 127))
@@ -293,23 +274,22 @@ bound_allowed false n e = absurd cc
 add_none : (n : ℕ) → n + 0 ≡ n
 add_none n = omega arith
 
+leaf_push : (p : Program) (claim : Claim) (count : ℕ) (ns : List Node) (n : Node) → AreNodes p claim count ns → FitsNode p n → branch_count (n ∷ []) ≡ 0 → MayBound (is_optimal claim) (n ∷ []) → AreNodes p claim count (ns ++ n ∷ [])
+leaf_push p claim count ns n h fits e b =
+    let few : count + 0 ≤ 20256 = omega (arith, h.few) in
+    subst (λ c. AreNodes p claim c (ns ++ n ∷ [])) (add_none count) (node_push p claim count 0 ns n h fits e few b)
+
 nodes_more : (p : Program) (claim : Claim) (s : Place) (d : Draft) (item : Item) → s.claim ≡ claim → Accepted p s item → AreNodes p claim s.branches d.nodes
     → AreNodes p claim (lands s item).branches (with_item (length p.columns) (length p.rows) item d).nodes
 nodes_more p claim s d (items.Branch j k) c a h =
     let room = below 20256 s.branches a.3 in
     node_push p claim s.branches 1 d.nodes (nodes.Branch j k) h (a.1, in_range k a.2) refl (omega (arith, room)) (leaf_allowed (is_optimal claim) (nodes.Branch j k) tt)
 nodes_more p claim s d items.Bound c a h =
-    let leaf = nodes.Bound (zeros (length p.columns)) (zeros (length p.rows)) in
-    let few : s.branches + 0 ≤ 20256 = omega (arith, h.few) in
-    subst (λ n. AreNodes p claim n (d.nodes ++ leaf ∷ [])) (add_none s.branches) (node_push p claim s.branches 0 d.nodes leaf h (zeros_count (length p.columns), zeros_count (length p.rows)) refl few
-    (bound_allowed (is_optimal claim) leaf (ap is_optimal (sym c) ∙ bound_claim s.claim s.part (can_stand s words.Bound a))))
+    leaf_push p claim s.branches d.nodes (nodes.Bound (zeros (length p.columns)) (zeros (length p.rows))) h (zeros_count (length p.columns), zeros_count (length p.rows)) refl
+    (bound_allowed (is_optimal claim) (nodes.Bound (zeros (length p.columns)) (zeros (length p.rows))) (ap is_optimal (sym c) ∙ bound_claim s.claim s.part (can_stand s words.Bound a)))
 nodes_more p claim s d items.Farkas c a h =
-    let leaf = nodes.Farkas (zeros (length p.rows)) in
-    let few : s.branches + 0 ≤ 20256 = omega (arith, h.few) in
-    subst (λ n. AreNodes p claim n (d.nodes ++ leaf ∷ [])) (add_none s.branches) (node_push p claim s.branches 0 d.nodes leaf h (zeros_count (length p.rows)) refl few (leaf_allowed (is_optimal claim) leaf tt))
-nodes_more p claim s d (items.Cross j) c a h =
-    let few : s.branches + 0 ≤ 20256 = omega (arith, h.few) in
-    subst (λ n. AreNodes p claim n (d.nodes ++ nodes.Cross j ∷ [])) (add_none s.branches) (node_push p claim s.branches 0 d.nodes (nodes.Cross j) h a.1 refl few (leaf_allowed (is_optimal claim) (nodes.Cross j) tt))
+    leaf_push p claim s.branches d.nodes (nodes.Farkas (zeros (length p.rows))) h (zeros_count (length p.rows)) refl (leaf_allowed (is_optimal claim) (nodes.Farkas (zeros (length p.rows))) tt)
+nodes_more p claim s d (items.Cross j) c a h = leaf_push p claim s.branches d.nodes (nodes.Cross j) h a.1 refl (leaf_allowed (is_optimal claim) (nodes.Cross j) tt)
 nodes_more p claim s d (items.W j v) c a h = node_last p claim s.branches (with_w j v) (w_kind p j v) d.nodes h
 nodes_more p claim s d (items.Y i v) c a h = node_last p claim s.branches (with_y i v) (y_kind p i v) d.nodes h
 nodes_more p claim s d item c a h = h
@@ -361,8 +341,7 @@ tree_size (suc w) [] t = absurd t
 tree_size zero (n ∷ ns) t = absurd t
 tree_size (suc w) (nodes.Branch j k ∷ ns) t = let e = tree_size (suc (suc w)) ns t in omega (arith, e)
 tree_size (suc w) (nodes.Bound x y ∷ ns) t = let e = tree_size w ns t in omega (arith, e)
-tree_size (suc w) (nodes.Farkas y ∷ ns) t = let e = tree_size w ns t in omega (arith, e)
-tree_size (suc w) (nodes.Cross j ∷ ns) t = let e = tree_size w ns t in omega (arith, e)
+tree_size (suc w) (n ∷ ns) t = let e = tree_size w ns t in omega (arith, e)
 
 few_nodes : (ns : List Node) (count : ℕ) → AreTrees 1 ns → branch_count ns ≡ count → count ≤ 20256 → length ns < 2 ^ 32
 few_nodes ns count t e few = let size = tree_size 1 ns t in small (length ns) (omega (arith, size, e, few))

@@ -1,5 +1,5 @@
 -- The line at which a text leaves the grammar is the first that no certificate's text begins with.
-use Rattle.std.proofs.Common.{◌≡◌, ◌≢◌, ℕ, zero, suc, ◌+◌, ◌-◌, Bool, true, false, List, [], ◌∷◌, ◌++◌, length, Option, Some, None, Ok, Err, refl, sym, ap, ◌∙◌, subst, arith, append_assoc}
+use Rattle.std.proofs.Common.{◌≡◌, ◌≢◌, ℕ, zero, suc, ◌+◌, ◌-◌, ◌≤◌, Bool, true, false, List, [], ◌∷◌, ◌++◌, length, Option, Some, None, Ok, Err, refl, sym, ap, ◌∙◌, subst, arith, append_assoc}
 use Rattle.std.specs.Prelude.{◌==◌, if◌then◌else◌}
 use Rattle.std.specs.List.{flat_map, join_with_byte, list_all, onto_first, AllByRecursion}
 use Rattle.std.proofs.lemmas.List.Splits.{join_with_byte-slice_split}
@@ -7,6 +7,7 @@ use Rattle.std.proofs.lemmas.List.Concat.{flat_map-append}
 use Rattle.rational.specs.Rational.{zero_ℚ}
 use Rattle.program_law.specs.Program.{Program, IsProgram}
 use Rattle.certificate_law.specs.declared.Certificate.{Certificate}
+use Rattle.mps_tokens.specs.declared.words.CertificateWord.{CertificateWord}
 use Rattle.mps_tokens.specs.declared.words.CertificateWord.TheVariants as words
 use Rattle.cert_fields.specs.Parts.{is_byte, pieces_of, parts_of}
 use Rattle.cert_fields.specs.Lines.{line_text}
@@ -21,7 +22,11 @@ use Rattle.cert_text.specs.declared.grammar.Part.TheVariants as parts
 use Rattle.cert_text.specs.declared.places.Place.{Place}
 use Rattle.cert_text.specs.Text.{certificate_text}
 use Rattle.cert_text.specs.Places.{start, place_after, is_ended}
-use Rattle.cert_text.specs.Faults.{line_fault}
+use Rattle.cert_text.specs.declared.grammar.Shape.{Shape}
+use Rattle.cert_text.specs.declared.grammar.Shape.TheVariants.{Bare, Number, Name, Entry}
+use Rattle.cert_fields.specs.Fields.{behind}
+use Rattle.cert_text.specs.Grammar.{shape_of}
+use Rattle.cert_text.specs.Faults.{Tests, first_of, shape_tests, tests, fault_of_word, line_fault, word_of}
 use Rattle.cert_text.specs.Told.{blank, item_of, certificate_told}
 use Rattle.cert_text.specs.Reading.{Answer, claim_in, fault_or, read_claimed, read_on, read_of, read_pieces}
 use Rattle.cert_text.specs.Writable.{IsWritable, NumbersFit}
@@ -72,6 +77,36 @@ line_is a n m k j e f = ap (λ (x : ℕ × CertKind). x.0) (fault_is a (n, k) (m
 kind_is : (a : Answer) (n m : ℕ) (k j : CertKind) → a ≡ Err (n, k) → a ≡ Err (m, j) → j ≡ k
 kind_is a n m k j e f = ap (λ (x : ℕ × CertKind). x.1) (fault_is a (n, k) (m, j) e f)
 
+-- no line's fault is that there is no line
+abbrev is_end : CertKind → Bool
+is_end kinds.CertEnd = true
+is_end kind = false
+
+no_end : (ts : Tests) (k : CertKind) → AllByRecursion (λ t. is_end t.1 ≡ false) ts → first_of ts ≡ Some k → is_end k ≡ false
+no_end [] k h e = absurd cc
+no_end ((true, j) ∷ ts) k h e = ap is_end (sym (same j k e)) ∙ h.0
+  where
+    same : (j k : CertKind) → Some j ≡ Some k → j ≡ k
+    same j k e = cc
+no_end ((false, j) ∷ ts) k h e = no_end ts k h.1 e
+
+shape_kinds : (p : Program) (s : Place) (word : CertificateWord) (shape : Shape) (fields : List (List ℕ)) → AllByRecursion (λ t. is_end t.1 ≡ false) (shape_tests p s word shape fields)
+shape_kinds p s word Bare fields = (refl, tt)
+shape_kinds p s word (Number allowed) fields = (refl, (refl, (refl, (refl, tt))))
+shape_kinds p s word (Name axis) fields = (refl, (refl, tt))
+shape_kinds p s word (Entry axis allowed) fields = (refl, (refl, (refl, (refl, (refl, (refl, tt))))))
+
+fault_kind : (p : Program) (s : Place) (parts : List (List ℕ)) (k : CertKind) → line_fault p s parts ≡ Some k → is_end k ≡ false
+unfolding line_fault
+fault_kind p s parts k e = go (word_of parts) e
+  where
+    go : (o : Option CertificateWord) → fault_of_word p s o (behind parts) ≡ Some k → is_end k ≡ false
+    go None e = no_end ((true, kinds.CertLine) ∷ []) k (refl, tt) e
+    go (Some word) e = no_end (tests p s word (behind parts)) k (shape_kinds p s word (shape_of word) (behind parts)) e
+
+never_end : {A : Type 0} (k : CertKind) → is_end k ≡ false → k ≡ kinds.CertEnd → A
+never_end k e f = absurd (cc (e, f))
+
 -- behind END nothing may stand
 past_end : (p : Program) (claim : Claim) (n : ℕ) (earlier : List Item) (text : List ℕ) → is_ended (place_after claim earlier).part ≡ true → text ≢ [] → IsRefused (read_on p claim n earlier (pieces_of text))
 past_end p claim n earlier [] e some = absurd (some refl)
@@ -87,11 +122,12 @@ record IsFaulted (p : Program) (claim : Claim) (m : ℕ) (earlier : List Item) (
   later : List Item
   runs : Runs p (place_after claim earlier) later
   text : first_pieces count pieces ≡ flat_map (item_text p) later
+  end : kind ≡ kinds.CertEnd → length pieces ≤ suc count
   next : kind ≢ kinds.CertEnd → (rest : List ℕ) → IsRefused (read_on p claim m earlier (pieces_of (first_pieces (suc count) pieces ++ rest)))
 
-here : (p : Program) (claim : Claim) (m : ℕ) (earlier : List Item) (pieces : List (List ℕ)) (at : ℕ) (kind : CertKind) → at ≡ m
+here : (p : Program) (claim : Claim) (m : ℕ) (earlier : List Item) (pieces : List (List ℕ)) (at : ℕ) (kind : CertKind) → at ≡ m → (kind ≡ kinds.CertEnd → length pieces ≤ 1)
     → (kind ≢ kinds.CertEnd → (rest : List ℕ) → IsRefused (read_on p claim m earlier (pieces_of (first_pieces 1 pieces ++ rest)))) → IsFaulted p claim m earlier pieces at kind
-here p claim m earlier pieces at kind e next = record { count = 0; at_is = omega (arith, e); later = []; runs = tt; text = refl; next = next }
+here p claim m earlier pieces at kind e end next = record { count = 0; at_is = omega (arith, e); later = []; runs = tt; text = refl; end = end; next = next }
 
 last_piece : (p : Program) (claim : Claim) (m : ℕ) (earlier : List Item) (piece : List ℕ) (at : ℕ) (kind : CertKind) → read_on p claim m earlier (piece ∷ []) ≡ Err (at, kind) → IsFaulted p claim m earlier (piece ∷ []) at kind
 last_piece p claim m earlier piece at kind e = go (is_ended (place_after claim earlier).part) (length piece == 0) refl refl
@@ -107,10 +143,10 @@ last_piece p claim m earlier piece at kind e = go (is_ended (place_after claim e
     go true true f g = absurd (let bad = rw (f, g) at e in cc)
     go true false f g =
         let now : a ≡ Err (m, kinds.CertAfter) = rw (f, g) refl in
-        here p claim m earlier (piece ∷ []) at kind (line_is a m at kinds.CertAfter kind now e) (λ n rest. past_end p claim m earlier (piece ++ rest) f (some piece rest g))
+        here p claim m earlier (piece ∷ []) at kind (line_is a m at kinds.CertAfter kind now e) (λ k. omega arith) (λ n rest. past_end p claim m earlier (piece ++ rest) f (some piece rest g))
     go false t f g =
         let now : a ≡ Err (m, kinds.CertEnd) = rw f refl in
-        here p claim m earlier (piece ∷ []) at kind (line_is a m at kinds.CertEnd kind now e) (λ n rest. absurd (n (kind_is a m at kinds.CertEnd kind now e)))
+        here p claim m earlier (piece ∷ []) at kind (line_is a m at kinds.CertEnd kind now e) (λ k. omega arith) (λ n rest. absurd (n (kind_is a m at kinds.CertEnd kind now e)))
 
 one_more : (p : Program) (claim : Claim) (m : ℕ) (earlier : List Item) (piece next : List ℕ) (pieces : List (List ℕ)) (at : ℕ) (kind : CertKind) → list_all (without 10) piece ≡ true
     → (read_on p claim (m + 1) (item_of p (parts_of piece) ∷ earlier) (next ∷ pieces) ≡ Err (at, kind) → IsFaulted p claim (m + 1) (item_of p (parts_of piece) ∷ earlier) (next ∷ pieces) at kind)
@@ -133,10 +169,10 @@ one_more p claim m earlier piece next pieces at kind clear rest e = go (is_ended
     go : (b : Bool) (o : Option CertKind) → is_ended s.part ≡ b → line_fault p s (parts_of piece) ≡ o → IsFaulted p claim m earlier (piece ∷ next ∷ pieces) at kind
     go true o f g =
         let now : a ≡ Err (m, kinds.CertAfter) = rw f refl in
-        here p claim m earlier (piece ∷ next ∷ pieces) at kind (line_is a m at kinds.CertAfter kind now e) (λ n rest. past_end p claim m earlier ((piece ++ 10 ∷ []) ++ rest) f (some piece rest))
+        here p claim m earlier (piece ∷ next ∷ pieces) at kind (line_is a m at kinds.CertAfter kind now e) (never_end kind (ap is_end (kind_is a m at kinds.CertAfter kind now e))) (λ n rest. past_end p claim m earlier ((piece ++ 10 ∷ []) ++ rest) f (some piece rest))
     go false (Some k) f g =
         let now : a ≡ Err (m, k) = rw (f, g) refl in
-        here p claim m earlier (piece ∷ next ∷ pieces) at kind (line_is a m at k kind now e)
+        here p claim m earlier (piece ∷ next ∷ pieces) at kind (line_is a m at k kind now e) (never_end kind (ap is_end (kind_is a m at k kind now e) ∙ fault_kind p s (parts_of piece) k g))
         (λ n rest.
         let text = piece ++ 10 ∷ rest in
         let whole : read_on p claim m earlier (pieces_of text) ≡ Err (m, k) = step p claim m earlier piece text rest (split rest) f ∙ ap (λ o. fault_or o m (read_on p claim (m + 1) (item_of p (parts_of piece) ∷ earlier) (pieces_of rest))) g in
@@ -155,6 +191,7 @@ one_more p claim m earlier piece next pieces at kind clear rest e = go (is_ended
           runs = (f, back.accepted, subst (λ t. Runs p t more.later) there more.runs);
           text = ap (λ (l : List ℕ). l ++ 10 ∷ tail) line ∙ ap (λ (l : List ℕ). join_with_byte 32 (fields_of p item) ++ 10 ∷ l) more.text
               ∙ sym (append_assoc (join_with_byte 32 (fields_of p item)) (10 ∷ []) (flat_map (item_text p) more.later));
+          end = λ k. let within = more.end k in omega (arith, within);
           next = λ n rest.
               let x = first_pieces (suc more.count) (next ∷ pieces) ++ rest in
               let text = piece ++ 10 ∷ x in
@@ -165,7 +202,7 @@ one_more p claim m earlier piece next pieces at kind clear rest e = go (is_ended
 faulted : (p : Program) (claim : Claim) (m : ℕ) (earlier : List Item) (pieces : List (List ℕ)) (at : ℕ) (kind : CertKind) → AllByRecursion (λ bs. list_all (without 10) bs ≡ true) pieces → read_on p claim m earlier pieces ≡ Err (at, kind) → IsFaulted p claim m earlier pieces at kind
 faulted p claim m earlier [] at kind c e =
     let same = kind_is (read_on p claim m earlier []) m at kinds.CertEnd kind refl e in
-    here p claim m earlier [] at kind (line_is (read_on p claim m earlier []) m at kinds.CertEnd kind refl e) (λ n rest. absurd (n same))
+    here p claim m earlier [] at kind (line_is (read_on p claim m earlier []) m at kinds.CertEnd kind refl e) (λ k. omega arith) (λ n rest. absurd (n same))
 faulted p claim m earlier (piece ∷ []) at kind c e = last_piece p claim m earlier piece at kind e
 faulted p claim m earlier (piece ∷ next ∷ pieces) at kind c e =
     one_more p claim m earlier piece next pieces at kind c.0 (λ f. faulted p claim (m + 1) (item_of p (parts_of piece) ∷ earlier) (next ∷ pieces) at kind c.1 f) e
@@ -246,6 +283,7 @@ record HasFault (p : Program) (n : ℕ) (pieces : List (List ℕ)) (at : ℕ) (k
   count : ℕ
   at_is : at ≡ n + count
   front : IsFront p (first_pieces count pieces)
+  end : kind ≡ kinds.CertEnd → length pieces ≤ suc count
   next : kind ≢ kinds.CertEnd → (rest : List ℕ) → IsRefused (read_of p n (first_pieces (suc count) pieces ++ rest))
 
 first_faulted : (p : Program) (n : ℕ) (first next : List ℕ) (pieces : List (List ℕ)) (at : ℕ) (kind : CertKind) (o : Option Claim) → claim_in first ≡ o → AllByRecursion (λ bs. list_all (without 10) bs ≡ true) (first ∷ next ∷ pieces)
@@ -254,6 +292,7 @@ first_faulted p n first next pieces at kind None f c e = record {
   count = 0;
   at_is = let same = line_is (read_claimed p n None (next ∷ pieces)) n at kinds.CertLine kind refl e in omega (arith, same);
   front = none_front p;
+  end = never_end kind (ap is_end (kind_is (read_claimed p n None (next ∷ pieces)) n at kinds.CertLine kind refl e));
   next = λ k rest.
       let text = first ++ 10 ∷ rest in
       subst (λ (t : List ℕ). IsRefused (read_of p n t)) (sym (append_assoc first (10 ∷ []) rest)) (refused (read_of p n text) n kinds.CertLine (unclaimed p n first text rest (split_behind 10 first rest c.0) f));
@@ -267,6 +306,7 @@ first_faulted p n first next pieces at kind (Some claim) f c e =
       count = suc h.count;
       at_is = omega (arith, h.at_is);
       front = subst (IsFront p) same front;
+      end = λ k. let within = h.end k in omega (arith, within);
       next = λ k rest.
           let tail = first_pieces (suc h.count) (next ∷ pieces) in
           let x = tail ++ rest in
@@ -274,17 +314,18 @@ first_faulted p n first next pieces at kind (Some claim) f c e =
           subst (λ (t : List ℕ). IsRefused (read_of p n t)) (sym (append_assoc first (10 ∷ tail) rest)) (subst IsRefused (sym (claimed p n first text x claim (split_behind 10 first x c.0) f)) (h.next k rest));
     }
 
-unbegun_fault : (p : Program) (n : ℕ) (pieces : List (List ℕ)) (at : ℕ) (kind : CertKind) → read_pieces p n pieces ≡ Err (n, kinds.CertEnd) → read_pieces p n pieces ≡ Err (at, kind) → HasFault p n pieces at kind
-unbegun_fault p n pieces at kind now e = record {
+unbegun_fault : (p : Program) (n : ℕ) (pieces : List (List ℕ)) (at : ℕ) (kind : CertKind) → length pieces ≤ 1 → read_pieces p n pieces ≡ Err (n, kinds.CertEnd) → read_pieces p n pieces ≡ Err (at, kind) → HasFault p n pieces at kind
+unbegun_fault p n pieces at kind few now e = record {
   count = 0;
   at_is = let same = line_is (read_pieces p n pieces) n at kinds.CertEnd kind now e in omega (arith, same);
   front = none_front p;
+  end = λ k. few;
   next = λ k rest. absurd (k (kind_is (read_pieces p n pieces) n at kinds.CertEnd kind now e));
 }
 
 has_fault : (p : Program) (n : ℕ) (pieces : List (List ℕ)) (at : ℕ) (kind : CertKind) → AllByRecursion (λ bs. list_all (without 10) bs ≡ true) pieces → read_pieces p n pieces ≡ Err (at, kind) → HasFault p n pieces at kind
-has_fault p n [] at kind c e = unbegun_fault p n [] at kind refl e
-has_fault p n (first ∷ []) at kind c e = unbegun_fault p n (first ∷ []) at kind refl e
+has_fault p n [] at kind c e = unbegun_fault p n [] at kind (omega arith) refl e
+has_fault p n (first ∷ []) at kind c e = unbegun_fault p n (first ∷ []) at kind (omega arith) refl e
 has_fault p n (first ∷ next ∷ pieces) at kind c e = first_faulted p n first next pieces at kind (claim_in first) refl c e
 
 count_is : (n at count : ℕ) → at ≡ n + count → count ≡ at - n
@@ -292,6 +333,15 @@ count_is n at count e = omega (arith, e)
 
 more_is : (n at count : ℕ) → at ≡ n + count → suc count ≡ at - n + 1
 more_is n at count e = omega (arith, e)
+
+pub not_before : (p : Program) (n : ℕ) (text : List ℕ) (at : ℕ) (kind : CertKind) → read_of p n text ≡ Err (at, kind) → n ≤ at
+not_before p n text at kind e = let h = has_fault p n (pieces_of text) at kind (pieces_clear text) e in omega (arith, h.at_is)
+
+pub no_line_left : (p : Program) (n : ℕ) (text : List ℕ) (at : ℕ) → read_of p n text ≡ Err (at, kinds.CertEnd) → length (pieces_of text) ≤ at - n + 1
+no_line_left p n text at e =
+    let h = has_fault p n (pieces_of text) at kinds.CertEnd (pieces_clear text) e in
+    let within = h.end refl in
+    omega (arith, within, h.at_is)
 
 pub front_before : (p : Program) (n : ℕ) (text : List ℕ) (at : ℕ) (kind : CertKind) → read_of p n text ≡ Err (at, kind) → IsFront p (first_lines (at - n) text)
 front_before p n text at kind e =

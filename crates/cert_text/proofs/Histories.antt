@@ -86,22 +86,19 @@ kept f same o (n ∷ []) = same n o
 kept f same o (n ∷ m ∷ ns) = kept f same (with_node n o) (m ∷ ns)
 
 same_w : (j : ℕ) (v : ℚ) (n : Node) (o : Option ℕ) → with_node (with_w j v n) o ≡ with_node n o
-same_w j v (nodes.Branch i k) o = refl
 same_w j v (nodes.Bound x y) None = refl
 same_w j v (nodes.Bound x y) (Some zero) = refl
 same_w j v (nodes.Bound x y) (Some (suc w)) = refl
-same_w j v (nodes.Farkas y) o = refl
-same_w j v (nodes.Cross i) o = refl
+same_w j v n o = refl
 
 same_y : (j : ℕ) (v : ℚ) (n : Node) (o : Option ℕ) → with_node (with_y j v n) o ≡ with_node n o
-same_y j v (nodes.Branch i k) o = refl
 same_y j v (nodes.Bound x y) None = refl
 same_y j v (nodes.Bound x y) (Some zero) = refl
 same_y j v (nodes.Bound x y) (Some (suc w)) = refl
 same_y j v (nodes.Farkas y) None = refl
 same_y j v (nodes.Farkas y) (Some zero) = refl
 same_y j v (nodes.Farkas y) (Some (suc w)) = refl
-same_y j v (nodes.Cross i) o = refl
+same_y j v n o = refl
 
 not_ended : (w : ℕ) → false ≡ true → w ≡ 0
 not_ended w e = absurd cc
@@ -146,9 +143,7 @@ has_room n s h k = record { wanted = omega (arith, k.wanted); squares = omega (a
 
 start_counted : (claim : Claim) → IsCounted 0 (start claim)
 start_counted Optimal = record { wanted = omega arith; squares = omega arith; branches = omega arith }
-start_counted Infeasible = record { wanted = omega arith; squares = omega arith; branches = omega arith }
-start_counted Unbounded = record { wanted = omega arith; squares = omega arith; branches = omega arith }
-start_counted NotConvex = record { wanted = omega arith; squares = omega arith; branches = omega arith }
+start_counted claim = record { wanted = omega arith; squares = omega arith; branches = omega arith }
 
 pub start_tracked : (claim : Claim) → Tracks claim (start claim) []
 start_tracked Optimal = record { wanted = refl; done = λ e. absurd cc }

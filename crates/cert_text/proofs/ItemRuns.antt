@@ -25,7 +25,7 @@ use Rattle.cert_text.specs.declared.items.Claim.{Claim}
 use Rattle.cert_text.specs.Grammar.{is_due}
 use Rattle.cert_text.specs.Places.{at, may_stand, least, least_in, is_ended}
 use Rattle.cert_text.specs.Writable.{branch_count, NodeFits}
-use Rattle.cert_text.proofs.Lands.{is_optimal, can, part_of, lands, unended, end_node, end_bound, nodes_end, coef_square, w_y, y_end, y_least}
+use Rattle.cert_text.proofs.Lands.{is_optimal, can, part_of, lands, unended, end_node, end_bound, nodes_end, coef_square, w_y, ends_too, y_least}
 use Rattle.cert_text.proofs.ItemFields.{IsEntry, Accepted}
 use Rattle.cert_text.proofs.TextsRead.{Runs, after_all}
 
@@ -192,7 +192,7 @@ farkas_run p s y h some width fits =
     let ys = entries_run p t words.Y Rows items.Y (y_lists p) t 0 y (itself t words.Y refl) (le_refl 0) (omega (arith, width)) fits in
     let u = after_all t (entries items.Y 0 y) in (
       (open_end s h, rw ((end_node s.claim s.part h).1, some_wanted s.wanted some) refl, ys.0),
-      record { claim = ys.1.claim; wanted_is = ys.1.wanted; branches_is = ys.1.branches; ends = y_end u.claim u.part ys.1.stands },
+      record { claim = ys.1.claim; wanted_is = ys.1.wanted; branches_is = ys.1.branches; ends = ends_too u.claim u.part words.Y refl ys.1.stands },
     )
 
 bound_run : (p : Program) (s : Place) (w y : List ℚ) → can s.claim s.part words.End ≡ true → 0 < s.wanted → is_optimal s.claim ≡ true → length w ≡ length p.columns → length y ≡ length p.rows → AllByRecursion (Fits max_part) w → AllByRecursion (Fits max_part) y
@@ -208,7 +208,7 @@ bound_run p s w y h some optimal wide width fits fit =
     let stands : may_stand s words.Bound ≡ true = rw (end_bound s.claim s.part h optimal, some_wanted s.wanted some) refl in
     let P : Place → Type 0 = λ v. IsNode s v (s.wanted - 1) s.branches in (
       (open_end s h, stands, runs_append p t (entries items.W 0 w) (entries items.Y 0 y) ws.0 ys.0),
-      subst P (sym here) (record { claim = ys.1.claim ∙ ws.1.claim; wanted_is = ys.1.wanted ∙ ws.1.wanted; branches_is = ys.1.branches ∙ ws.1.branches; ends = y_end v.claim v.part ys.1.stands }),
+      subst P (sym here) (record { claim = ys.1.claim ∙ ws.1.claim; wanted_is = ys.1.wanted ∙ ws.1.wanted; branches_is = ys.1.branches ∙ ws.1.branches; ends = ends_too v.claim v.part words.Y refl ys.1.stands }),
     )
 
 -- the rest behind one node
@@ -223,10 +223,8 @@ then_rest p s n ns wanted branches one node more =
 
 no_bound : (b : Bool) (n : Node) (ns : List Node) → MayBound b (n ∷ ns) → MayBound b ns
 no_bound true n ns h = tt
-no_bound false (nodes.Branch j k) ns h = h
 no_bound false (nodes.Bound w y) ns h = absurd h
-no_bound false (nodes.Farkas y) ns h = h
-no_bound false (nodes.Cross j) ns h = h
+no_bound false n ns h = h
 
 is_bounded : (b : Bool) (w y : List ℚ) (ns : List Node) → MayBound b (nodes.Bound w y ∷ ns) → b ≡ true
 is_bounded true w y ns h = refl

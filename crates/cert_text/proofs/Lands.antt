@@ -112,6 +112,13 @@ abbrev pub is_value_word : CertificateWord → Bool
 is_value_word words.Value = true
 is_value_word word = false
 
+abbrev pub is_node_word : CertificateWord → Bool
+is_node_word words.Branch = true
+is_node_word words.Bound = true
+is_node_word words.Farkas = true
+is_node_word words.Cross = true
+is_node_word word = false
+
 pub amid_part : (claim : Claim) (part : Part) (word : CertificateWord) → is_value_word word ≡ false → can claim part word ≡ true → is_amid part ≡ true
 amid_part claim part word w e = grind arith
 
@@ -159,17 +166,12 @@ ray_square claim part e = grind arith
 pub coef_square : (claim : Claim) (part : Part) → can claim part words.Coef ≡ true → can claim part words.Square ≡ true
 coef_square claim part e = grind arith
 
-pub square_end : (claim : Claim) (part : Part) → can claim part words.Square ≡ true → can claim part words.End ≡ true
-square_end claim part e = grind arith
-
-pub vector_end : (claim : Claim) (part : Part) → can claim part words.Vector ≡ true → can claim part words.End ≡ true
-vector_end claim part e = grind arith
-
 pub w_y : (claim : Claim) (part : Part) → can claim part words.W ≡ true → can claim part words.Y ≡ true
 w_y claim part e = grind arith
 
-pub y_end : (claim : Claim) (part : Part) → can claim part words.Y ≡ true → can claim part words.End ≡ true
-y_end claim part e = grind arith
+-- behind each line but VALUE there may be END, if no subtree is wanted
+pub ends_too : (claim : Claim) (part : Part) (word : CertificateWord) → is_value_word word ≡ false → can claim part word ≡ true → can claim part words.End ≡ true
+ends_too claim part word v e = grind arith
 
 -- where END may stand, so may nodes
 pub end_node : (claim : Claim) (part : Part) → can claim part words.End ≡ true

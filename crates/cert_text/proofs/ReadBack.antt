@@ -32,7 +32,7 @@ use Rattle.cert_text.specs.Told.{blank, certificate_told}
 use Rattle.cert_text.specs.Reading.{Answer, claim_in, read_of}
 use Rattle.cert_text.specs.Writable.{IsWritable, NumbersFit, SquareFits, NodeFits, branch_count}
 use Rattle.cert_fields.proofs.NameLemmas.{count_names}
-use Rattle.cert_text.proofs.Lands.{is_optimal, is_unbounded, can, lands, unended, point_square, point_ray, ray_square, square_end, vector_end, ray_least}
+use Rattle.cert_text.proofs.Lands.{is_optimal, is_unbounded, can, lands, unended, point_square, point_ray, ray_square, ends_too, ray_least}
 use Rattle.cert_text.proofs.ItemFields.{fields_of}
 use Rattle.cert_text.proofs.TextsRead.{IsClear, Runs, after_all, tell_all, item_text, line_pieces, run_read}
 use Rattle.cert_text.proofs.ItemRuns.{entries, square_items, node_items, after_append, runs_append, entries_run, point_lists, ray_lists, direction_lists, itself, IsGoodSquare, squares_run, MayBound, nodes_run}
@@ -171,7 +171,7 @@ finishes p (certificates.Optimal x v squares tree) h fit =
     let below = squares_run p t squares (point_square t.claim t.part points.1.stands) (omega (arith, points.1.squares, h.few_squares)) (good_squares p squares h.fitting.1.positive h.fitting.1.widths fit.2) in
     let u = after_all t (flat_map square_items squares) in
     let optimal : is_optimal u.claim ≡ true = ap is_optimal (below.1.claim ∙ points.1.claim) in
-    let rest = tree_end p u tree (below.1.wanted ∙ points.1.wanted) (below.1.branches ∙ points.1.branches) (square_end u.claim u.part below.1.stands) h.fitting.2 h.few_branches fit.3 (subst (λ b. MayBound b tree) (sym optimal) tt) in
+    let rest = tree_end p u tree (below.1.wanted ∙ points.1.wanted) (below.1.branches ∙ points.1.branches) (ends_too u.claim u.part words.Square refl below.1.stands) h.fitting.2 h.few_branches fit.3 (subst (λ b. MayBound b tree) (sym optimal) tt) in
     let more = finish_then p s (entries items.Point 0 x) (flat_map square_items squares ++ (flat_map node_items tree ++ items.End ∷ [])) points.0
     (finish_then p t (flat_map square_items squares) (flat_map node_items tree ++ items.End ∷ []) below.0 rest) in
     record { runs = (refl, (refl, fit.1), more.runs); ends = more.ends }
@@ -187,14 +187,14 @@ finishes p (certificates.Unbounded x d squares) h fit =
     let count : u.squares ≡ 0 = rays.1.squares ∙ points.1.squares in
     let below = squares_run p u squares (ray_square u.claim u.part rays.1.stands) (omega (arith, count, h.few_squares)) (good_squares p squares h.fitting.2.positive h.fitting.2.widths fit.2) in
     let v = after_all u (flat_map square_items squares) in
-    let last = finish_end p v (below.1.wanted ∙ rays.1.wanted ∙ points.1.wanted) (square_end v.claim v.part below.1.stands) in
+    let last = finish_end p v (below.1.wanted ∙ rays.1.wanted ∙ points.1.wanted) (ends_too v.claim v.part words.Square refl below.1.stands) in
     finish_then p s (entries items.Point 0 x) (entries items.Ray 0 d ++ (flat_map square_items squares ++ items.End ∷ [])) points.0
     (finish_then p t (entries items.Ray 0 d) (flat_map square_items squares ++ items.End ∷ []) rays.0 (finish_then p u (flat_map square_items squares) (items.End ∷ []) below.0 last))
 finishes p (certificates.NotConvex v) h fit =
     let s = start NotConvex in
     let list = entries_run p s words.Vector Columns items.Direction (direction_lists p) s 0 v (itself s words.Vector refl) (le_refl 0) (omega (arith, h.fitting)) fit in
     let t = after_all s (entries items.Direction 0 v) in
-    finish_then p s (entries items.Direction 0 v) (items.End ∷ []) list.0 (finish_end p t list.1.wanted (vector_end t.claim t.part list.1.stands))
+    finish_then p s (entries items.Direction 0 v) (items.End ∷ []) list.0 (finish_end p t list.1.wanted (ends_too t.claim t.part words.Vector refl list.1.stands))
 
 -- ---- and tell it
 

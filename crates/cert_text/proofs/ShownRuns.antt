@@ -15,12 +15,13 @@ use Rattle.cert_text.specs.declared.grammar.Part.{Part}
 use Rattle.cert_text.specs.declared.grammar.Part.TheVariants as parts
 use Rattle.cert_text.specs.declared.places.Place.{Place}
 use Rattle.cert_text.specs.declared.draft.Draft.{Draft}
+use Rattle.cert_text.specs.Grammar.{item_word}
 use Rattle.cert_text.specs.Places.{start, may_stand, least, least_in, is_ended}
 use Rattle.cert_text.specs.Told.{blank, with_item, with_coef, with_w, with_y, on_last, certificate_told}
 use Rattle.mps_tokens.specs.declared.words.CertificateWord.{CertificateWord}
 use Rattle.mps_tokens.specs.declared.words.CertificateWord.TheVariants as words
-use Rattle.cert_text.proofs.Lands.{is_optimal, is_unbounded, can, can_stand, is_wanted, lands, is_amid, is_value_word, is_ray_part, is_square_part, is_leaf_part, amid_part, value_part, point_part, ray_part, vector_part, square_part, coef_part, w_part, leaf_part}
-use Rattle.cert_text.proofs.ItemFields.{Accepted}
+use Rattle.cert_text.proofs.Lands.{is_optimal, is_unbounded, can, can_stand, is_wanted, lands, is_amid, is_value_word, is_node_word, part_of, is_ray_part, is_square_part, is_leaf_part, amid_part, value_part, point_part, ray_part, vector_part, square_part, coef_part, w_part, leaf_part}
+use Rattle.cert_text.proofs.ItemFields.{Accepted, accepted_stands}
 use Rattle.cert_text.proofs.TextsRead.{Runs, after_all, tell_all}
 use Rattle.cert_text.proofs.ItemRuns.{entries, square_items, node_items}
 use Rattle.cert_text.proofs.ReadBack.{items_of}
@@ -120,10 +121,14 @@ record AreUnused (claim : Claim) (d : Draft) : Type 0 where
   squares : has_points claim ≡ false → d.squares ≡ []
   nodes_are : has_nodes claim ≡ false → d.nodes ≡ []
 
-record IsShown (p : Program) (claim : Claim) (s : Place) (d : Draft) (done : List Item) : Type 0 where
-  good : IsGood p claim s d
+-- the words and what the next one may add to
+record IsTold (claim : Claim) (s : Place) (d : Draft) (done : List Item) : Type 0 where
   text : done ≡ shown claim s.part d
   opens : Opens s.part s.next d
+
+record IsShown (p : Program) (claim : Claim) (s : Place) (d : Draft) (done : List Item) : Type 0 where
+  good : IsGood p claim s d
+  told : IsTold claim s d done
   has : has_part claim s.part ≡ true
   idle : has_nodes claim ≡ false → s.wanted ≡ 0
   unused : AreUnused claim d
@@ -261,197 +266,184 @@ value_text : (claim : Claim) (d e : Draft) (v : ℚ) (done : List Item) → done
 value_text claim d e v done none optimal value empty =
     ap (λ (l : List Item). l ++ items.Value v ∷ []) none ∙ sym (ap (λ b. first b e ++ body e) optimal ∙ ap (λ (l : List Item). items.Value e.value ∷ l) empty ∙ ap (λ v. items.Value v ∷ []) value)
 
-shown_more : (p : Program) (claim : Claim) (s : Place) (d : Draft) (done : List Item) (item : Item) → Accepted p s item → IsShown p claim s d done
-    → IsShown p claim (lands s item) (with_item (length p.columns) (length p.rows) item d) (done ++ item ∷ [])
-shown_more p claim s d done (items.Value v) a h =
+told_more : (p : Program) (claim : Claim) (s : Place) (d : Draft) (done : List Item) (item : Item) → Accepted p s item → IsShown p claim s d done
+    → IsTold claim (lands s item) (with_item (length p.columns) (length p.rows) item d) (done ++ item ∷ [])
+told_more p claim s d done (items.Value v) a h =
     let e = value_part claim s.part (by_claim claim s words.Value h.good.claim_is a.0) in
-    let empty : IsEmpty d = subst (λ part. Opens part s.next d) e h.opens in
+    let empty : IsEmpty d = subst (λ part. Opens part s.next d) e h.told.opens in
     let optimal : is_optimal claim ≡ true = subst (λ part. has_part claim part ≡ true) e h.has in
-    let none : done ≡ [] = subst (λ part. done ≡ shown claim part d) e h.text in
+    let none : done ≡ [] = subst (λ part. done ≡ shown claim part d) e h.told.text in
     let new = record d { value = v } in
     record {
-      good = good_more p claim s d (items.Value v) a h.good;
       text = value_text claim d new v done none optimal refl (body_none d empty);
       opens = record { point = empty.point; ray = empty.ray; direction = empty.direction; none = record { squares = empty.none.squares; nodes_are = empty.none.nodes_are } };
-      has = optimal_points claim optimal;
-      idle = h.idle;
-      unused = record { point = h.unused.point; ray = h.unused.ray; direction = h.unused.direction; squares = h.unused.squares; nodes_are = h.unused.nodes_are };
     }
-shown_more p claim s d done (items.Point j v) a h =
+told_more p claim s d done (items.Point j v) a h =
     let may = by_claim claim s words.Point h.good.claim_is a.stands in
     let e = point_part claim s.part may in
-    let o : AtPoints s.next d = subst (λ part. Opens part s.next d) e h.opens in
-    let has : has_points claim ≡ true = subst (λ part. has_part claim part ≡ true) e h.has in
+    let o : AtPoints s.next d = subst (λ part. Opens part s.next d) e h.told.opens in
     let new = record d { point = set d.point j v } in
     let inside : j < length d.point = omega (arith, a.inside, h.good.vectors.point) in
     record {
-      good = good_more p claim s d (items.Point j v) a h.good;
-      text = one_item claim s.part d new done (items.Point j v) h.text (amid claim s.part words.Point d refl may) (same_first (is_optimal claim) d new refl)
+      text = one_item claim s.part d new done (items.Point j v) h.told.text (amid claim s.part words.Point d refl may) (same_first (is_optimal claim) d new refl)
           (points_body d (set d.point j v) (items.Point j v) (put_first items.Point s.next j v d.point o.point a.late inside a.some) o.ray o.direction o.none);
       opens = record { point = zero_next s.next j v d.point o.point a.late; ray = o.ray; direction = o.direction; none = record { squares = o.none.squares; nodes_are = o.none.nodes_are } };
-      has = has;
-      idle = h.idle;
-      unused = record { point = λ f. clash (has_points claim) has f; ray = h.unused.ray; direction = h.unused.direction; squares = h.unused.squares; nodes_are = h.unused.nodes_are };
     }
-shown_more p claim s d done (items.Ray j v) a h =
+told_more p claim s d done (items.Ray j v) a h =
     let may = by_claim claim s words.Ray h.good.claim_is a.stands in
-    let b = before_ray s.part s.next d (ray_part claim s.part may) h.opens in
-    let has = ray_has claim s.part may h.has in
+    let b = before_ray s.part s.next d (ray_part claim s.part may) h.told.opens in
     let new = record d { ray = set d.ray j v } in
     let low = least s words.Ray in
     let inside : j < length d.ray = omega (arith, a.inside, h.good.vectors.ray) in
     record {
-      good = good_more p claim s d (items.Ray j v) a h.good;
-      text = one_item claim s.part d new done (items.Ray j v) h.text (amid claim s.part words.Ray d refl may) (same_first (is_optimal claim) d new refl)
+      text = one_item claim s.part d new done (items.Ray j v) h.told.text (amid claim s.part words.Ray d refl may) (same_first (is_optimal claim) d new refl)
           (rays_body d (set d.ray j v) (items.Ray j v) (put_first items.Ray low j v d.ray b.ray a.late inside a.some) b.direction b.none);
       opens = record { ray = zero_next low j v d.ray b.ray a.late; direction = b.direction; none = record { squares = b.none.squares; nodes_are = b.none.nodes_are } };
-      has = has;
-      idle = h.idle;
-      unused = record { point = h.unused.point; ray = λ f. clash (is_unbounded claim) has f; direction = h.unused.direction; squares = h.unused.squares; nodes_are = h.unused.nodes_are };
     }
-shown_more p claim s d done (items.Direction j v) a h =
+told_more p claim s d done (items.Direction j v) a h =
     let may = by_claim claim s words.Vector h.good.claim_is a.stands in
     let e = vector_part claim s.part may in
-    let o : AtDirections s.next d = subst (λ part. Opens part s.next d) e h.opens in
-    let has : has_directions claim ≡ true = subst (λ part. has_part claim part ≡ true) e h.has in
+    let o : AtDirections s.next d = subst (λ part. Opens part s.next d) e h.told.opens in
     let new = record d { direction = set d.direction j v } in
     let inside : j < length d.direction = omega (arith, a.inside, h.good.vectors.direction) in
     record {
-      good = good_more p claim s d (items.Direction j v) a h.good;
-      text = one_item claim s.part d new done (items.Direction j v) h.text (amid claim s.part words.Vector d refl may) (same_first (is_optimal claim) d new refl)
+      text = one_item claim s.part d new done (items.Direction j v) h.told.text (amid claim s.part words.Vector d refl may) (same_first (is_optimal claim) d new refl)
           (directions_body d (set d.direction j v) (items.Direction j v) (put_first items.Direction s.next j v d.direction o.direction a.late inside a.some) o.none);
       opens = record { direction = zero_next s.next j v d.direction o.direction a.late; none = record { squares = o.none.squares; nodes_are = o.none.nodes_are } };
-      has = has;
-      idle = h.idle;
-      unused = record { point = h.unused.point; ray = h.unused.ray; direction = λ f. clash (has_directions claim) has f; squares = h.unused.squares; nodes_are = h.unused.nodes_are };
     }
-shown_more p claim s d done (items.Square v) a h =
+told_more p claim s d done (items.Square v) a h =
     let may = by_claim claim s words.Square h.good.claim_is a.0 in
     let part = square_part claim s.part may in
-    let none = no_nodes s.part s.next d part h.opens in
-    let has = square_has claim s.part part h.has in
+    let none = no_nodes s.part s.next d part h.told.opens in
     let q : Square = record { weight = v; coef = zeros (length p.columns) } in
     let new = record d { squares = d.squares ++ q ∷ [] } in
     record {
-      good = good_more p claim s d (items.Square v) a h.good;
-      text = one_item claim s.part d new done (items.Square v) h.text (amid claim s.part words.Square d refl may) (same_first (is_optimal claim) d new refl)
+      text = one_item claim s.part d new done (items.Square v) h.told.text (amid claim s.part words.Square d refl may) (same_first (is_optimal claim) d new refl)
           (squares_body d (d.squares ++ q ∷ []) (items.Square v) (square_pushed d.squares q (zeros_zero (length p.columns))) none);
       opens = record { last = coef_pushed d.squares q (zeros_zero (length p.columns)); nodes_are = none };
-      has = has;
-      idle = h.idle;
-      unused = record { point = h.unused.point; ray = h.unused.ray; direction = h.unused.direction; squares = λ f. clash (has_points claim) has f; nodes_are = h.unused.nodes_are };
     }
-shown_more p claim s d done (items.Coef j v) a h =
+told_more p claim s d done (items.Coef j v) a h =
     let may = by_claim claim s words.Coef h.good.claim_is a.stands in
     let e = coef_part claim s.part may in
-    let o : AtSquares s.next d = subst (λ part. Opens part s.next d) e h.opens in
-    let has : has_points claim ≡ true = subst (λ part. has_part claim part ≡ true) e h.has in
+    let o : AtSquares s.next d = subst (λ part. Opens part s.next d) e h.told.opens in
     let qs = on_last (with_coef j v) d.squares in
     let new = record d { squares = qs } in
     record {
-      good = good_more p claim s d (items.Coef j v) a h.good;
-      text = one_item claim s.part d new done (items.Coef j v) h.text (amid claim s.part words.Coef d refl may) (same_first (is_optimal claim) d new refl)
+      text = one_item claim s.part d new done (items.Coef j v) h.told.text (amid claim s.part words.Coef d refl may) (same_first (is_optimal claim) d new refl)
           (squares_body d qs (items.Coef j v) (coef_put s.next j (length p.columns) v d.squares o.last a.late h.good.squares.widths a.inside a.some) o.nodes_are);
       opens = record { last = coef_next s.next j v d.squares o.last a.late; nodes_are = o.nodes_are };
-      has = has;
-      idle = h.idle;
-      unused = record { point = h.unused.point; ray = h.unused.ray; direction = h.unused.direction; squares = λ f. clash (has_points claim) has f; nodes_are = h.unused.nodes_are };
     }
-shown_more p claim s d done (items.Branch j k) a h =
-    let w = wanted_has claim s.wanted (is_wanted s words.Branch refl a.0) h.idle in
+told_more p claim s d done (items.Branch j k) a h =
     let n = nodes.Branch j k in
     let new = record d { nodes = d.nodes ++ n ∷ [] } in
     record {
-      good = good_more p claim s d (items.Branch j k) a h.good;
-      text = one_item claim s.part d new done (items.Branch j k) h.text (amid claim s.part words.Branch d refl (by_claim claim s words.Branch h.good.claim_is a.0)) (same_first (is_optimal claim) d new refl)
+      text = one_item claim s.part d new done (items.Branch j k) h.told.text (amid claim s.part words.Branch d refl (by_claim claim s words.Branch h.good.claim_is a.0)) (same_first (is_optimal claim) d new refl)
           (nodes_body d (d.nodes ++ n ∷ []) (items.Branch j k) (node_pushed d.nodes n (items.Branch j k) refl));
       opens = tt;
-      has = w;
-      idle = λ f. clash (has_nodes claim) w f;
-      unused = record { point = h.unused.point; ray = h.unused.ray; direction = h.unused.direction; squares = h.unused.squares; nodes_are = λ f. clash (has_nodes claim) w f };
     }
-shown_more p claim s d done items.Bound a h =
-    let w = wanted_has claim s.wanted (is_wanted s words.Bound refl a) h.idle in
+told_more p claim s d done items.Bound a h =
     let x = zeros (length p.columns) in
     let y = zeros (length p.rows) in
     let new = record d { nodes = d.nodes ++ nodes.Bound x y ∷ [] } in
     record {
-      good = good_more p claim s d items.Bound a h.good;
-      text = one_item claim s.part d new done items.Bound h.text (amid claim s.part words.Bound d refl (by_claim claim s words.Bound h.good.claim_is a)) (same_first (is_optimal claim) d new refl)
+      text = one_item claim s.part d new done items.Bound h.told.text (amid claim s.part words.Bound d refl (by_claim claim s words.Bound h.good.claim_is a)) (same_first (is_optimal claim) d new refl)
           (nodes_body d (d.nodes ++ nodes.Bound x y ∷ []) items.Bound (bound_pushed d.nodes x y (zeros_zero (length p.columns)) (zeros_zero (length p.rows))));
       opens = bound_begun d.nodes x y (zeros_zero (length p.columns)) (zeros_zero (length p.rows));
-      has = w;
-      idle = λ f. clash (has_nodes claim) w f;
-      unused = record { point = h.unused.point; ray = h.unused.ray; direction = h.unused.direction; squares = h.unused.squares; nodes_are = λ f. clash (has_nodes claim) w f };
     }
-shown_more p claim s d done items.Farkas a h =
-    let w = wanted_has claim s.wanted (is_wanted s words.Farkas refl a) h.idle in
+told_more p claim s d done items.Farkas a h =
     let y = zeros (length p.rows) in
     let new = record d { nodes = d.nodes ++ nodes.Farkas y ∷ [] } in
     record {
-      good = good_more p claim s d items.Farkas a h.good;
-      text = one_item claim s.part d new done items.Farkas h.text (amid claim s.part words.Farkas d refl (by_claim claim s words.Farkas h.good.claim_is a)) (same_first (is_optimal claim) d new refl)
+      text = one_item claim s.part d new done items.Farkas h.told.text (amid claim s.part words.Farkas d refl (by_claim claim s words.Farkas h.good.claim_is a)) (same_first (is_optimal claim) d new refl)
           (nodes_body d (d.nodes ++ nodes.Farkas y ∷ []) items.Farkas (farkas_pushed d.nodes y (zeros_zero (length p.rows))));
       opens = farkas_begun d.nodes y (zeros_zero (length p.rows));
-      has = w;
-      idle = λ f. clash (has_nodes claim) w f;
-      unused = record { point = h.unused.point; ray = h.unused.ray; direction = h.unused.direction; squares = h.unused.squares; nodes_are = λ f. clash (has_nodes claim) w f };
     }
-shown_more p claim s d done (items.Cross j) a h =
-    let w = wanted_has claim s.wanted (is_wanted s words.Cross refl a.0) h.idle in
+told_more p claim s d done (items.Cross j) a h =
     let n = nodes.Cross j in
     let new = record d { nodes = d.nodes ++ n ∷ [] } in
     record {
-      good = good_more p claim s d (items.Cross j) a h.good;
-      text = one_item claim s.part d new done (items.Cross j) h.text (amid claim s.part words.Cross d refl (by_claim claim s words.Cross h.good.claim_is a.0)) (same_first (is_optimal claim) d new refl)
+      text = one_item claim s.part d new done (items.Cross j) h.told.text (amid claim s.part words.Cross d refl (by_claim claim s words.Cross h.good.claim_is a.0)) (same_first (is_optimal claim) d new refl)
           (nodes_body d (d.nodes ++ n ∷ []) (items.Cross j) (node_pushed d.nodes n (items.Cross j) refl));
       opens = tt;
-      has = w;
-      idle = λ f. clash (has_nodes claim) w f;
-      unused = record { point = h.unused.point; ray = h.unused.ray; direction = h.unused.direction; squares = h.unused.squares; nodes_are = λ f. clash (has_nodes claim) w f };
     }
-shown_more p claim s d done (items.W j v) a h =
+told_more p claim s d done (items.W j v) a h =
     let may = by_claim claim s words.W h.good.claim_is a.stands in
     let e = w_part claim s.part may in
-    let o : LastW s.next d.nodes = subst (λ part. Opens part s.next d) e h.opens in
-    let has : has_nodes claim ≡ true = subst (λ part. has_part claim part ≡ true) e h.has in
+    let o : LastW s.next d.nodes = subst (λ part. Opens part s.next d) e h.told.opens in
     let ns = on_last (with_w j v) d.nodes in
     let new = record d { nodes = ns } in
     record {
-      good = good_more p claim s d (items.W j v) a h.good;
-      text = one_item claim s.part d new done (items.W j v) h.text (amid claim s.part words.W d refl may) (same_first (is_optimal claim) d new refl)
+      text = one_item claim s.part d new done (items.W j v) h.told.text (amid claim s.part words.W d refl may) (same_first (is_optimal claim) d new refl)
           (nodes_body d ns (items.W j v) (w_put p s.next j v d.nodes o a.late h.good.nodes_are.nodes_fit a.inside a.some));
       opens = w_then s.next j v d.nodes o a.late;
-      has = has;
-      idle = h.idle;
-      unused = record { point = h.unused.point; ray = h.unused.ray; direction = h.unused.direction; squares = h.unused.squares; nodes_are = λ f. clash (has_nodes claim) has f };
     }
-shown_more p claim s d done (items.Y j v) a h =
+told_more p claim s d done (items.Y j v) a h =
     let may = by_claim claim s words.Y h.good.claim_is a.stands in
     let part = leaf_part claim s.part may in
-    let last = before_y s.part s.next d part h.opens in
-    let has = y_has claim s.part part h.has in
+    let last = before_y s.part s.next d part h.told.opens in
     let low = least s words.Y in
     let ns = on_last (with_y j v) d.nodes in
     let new = record d { nodes = ns } in
     record {
-      good = good_more p claim s d (items.Y j v) a h.good;
-      text = one_item claim s.part d new done (items.Y j v) h.text (amid claim s.part words.Y d refl may) (same_first (is_optimal claim) d new refl)
+      text = one_item claim s.part d new done (items.Y j v) h.told.text (amid claim s.part words.Y d refl may) (same_first (is_optimal claim) d new refl)
           (nodes_body d ns (items.Y j v) (y_put p low j v d.nodes last a.late h.good.nodes_are.nodes_fit a.inside a.some));
       opens = y_then low j v d.nodes last a.late;
-      has = has;
-      idle = h.idle;
-      unused = record { point = h.unused.point; ray = h.unused.ray; direction = h.unused.direction; squares = h.unused.squares; nodes_are = λ f. clash (has_nodes claim) has f };
     }
-shown_more p claim s d done items.End a h =
+told_more p claim s d done items.End a h =
     let there = amid claim s.part words.End d refl (by_claim claim s words.End h.good.claim_is a) in
     record {
-      good = good_more p claim s d items.End a h.good;
-      text = ap (λ (l : List Item). l ++ items.End ∷ []) (h.text ∙ there.text) ∙ append_assoc (first (is_optimal claim) d) (body d) (items.End ∷ []);
+      text = ap (λ (l : List Item). l ++ items.End ∷ []) (h.told.text ∙ there.text) ∙ append_assoc (first (is_optimal claim) d) (body d) (items.End ∷ []);
       opens = tt;
-      has = refl;
-      idle = h.idle;
-      unused = h.unused;
+    }
+
+-- a node is told where the claim has a tree
+node_has : (claim : Claim) (s : Place) (word : CertificateWord) → is_node_word word ≡ true → may_stand s word ≡ true → (has_nodes claim ≡ false → s.wanted ≡ 0) → has_nodes claim ≡ true
+node_has claim s words.Branch n m idle = wanted_has claim s.wanted (is_wanted s words.Branch refl m) idle
+node_has claim s words.Bound n m idle = wanted_has claim s.wanted (is_wanted s words.Bound refl m) idle
+node_has claim s words.Farkas n m idle = wanted_has claim s.wanted (is_wanted s words.Farkas refl m) idle
+node_has claim s words.Cross n m idle = wanted_has claim s.wanted (is_wanted s words.Cross refl m) idle
+node_has claim s word n m idle = absurd cc
+
+has_tree : (claim : Claim) (word : CertificateWord) → is_node_word word ≡ true → has_nodes claim ≡ true → has_part claim (part_of word) ≡ true
+has_tree claim word n h = grind arith
+
+has_next : (claim : Claim) (part : Part) (word : CertificateWord) → is_node_word word ≡ false → can claim part word ≡ true → has_part claim part ≡ true → has_part claim (part_of word) ≡ true
+has_next claim part word n e h = grind arith
+
+has_more : (claim : Claim) (s : Place) (word : CertificateWord) → s.claim ≡ claim → may_stand s word ≡ true → (has_nodes claim ≡ false → s.wanted ≡ 0) → has_part claim s.part ≡ true → has_part claim (part_of word) ≡ true
+has_more claim s word c m idle h = go (is_node_word word) refl
+  where
+    go : (b : Bool) → is_node_word word ≡ b → has_part claim (part_of word) ≡ true
+    go true n = has_tree claim word n (node_has claim s word n m idle)
+    go false n = has_next claim s.part word n (by_claim claim s word c m) h
+
+idle_more : (claim : Claim) (s : Place) (item : Item) → has_part claim (part_of (item_word item)) ≡ true → (has_nodes claim ≡ false → s.wanted ≡ 0) → has_nodes claim ≡ false → (lands s item).wanted ≡ 0
+idle_more claim s (items.Branch j k) has h f = clash (has_nodes claim) has f
+idle_more claim s items.Bound has h f = clash (has_nodes claim) has f
+idle_more claim s items.Farkas has h f = clash (has_nodes claim) has f
+idle_more claim s (items.Cross j) has h f = clash (has_nodes claim) has f
+idle_more claim s item has h f = h f
+
+unused_more : (claim : Claim) (c r : ℕ) (d : Draft) (item : Item) → has_part claim (part_of (item_word item)) ≡ true → AreUnused claim d → AreUnused claim (with_item c r item d)
+unused_more claim c r d (items.Value v) has h = record { point = h.point; ray = h.ray; direction = h.direction; squares = h.squares; nodes_are = h.nodes_are }
+unused_more claim c r d (items.Point j v) has h = record { point = λ f. clash (has_points claim) has f; ray = h.ray; direction = h.direction; squares = h.squares; nodes_are = h.nodes_are }
+unused_more claim c r d (items.Ray j v) has h = record { point = h.point; ray = λ f. clash (is_unbounded claim) has f; direction = h.direction; squares = h.squares; nodes_are = h.nodes_are }
+unused_more claim c r d (items.Direction j v) has h = record { point = h.point; ray = h.ray; direction = λ f. clash (has_directions claim) has f; squares = h.squares; nodes_are = h.nodes_are }
+unused_more claim c r d (items.Square v) has h = record { point = h.point; ray = h.ray; direction = h.direction; squares = λ f. clash (has_points claim) has f; nodes_are = h.nodes_are }
+unused_more claim c r d (items.Coef j v) has h = record { point = h.point; ray = h.ray; direction = h.direction; squares = λ f. clash (has_points claim) has f; nodes_are = h.nodes_are }
+unused_more claim c r d items.End has h = h
+unused_more claim c r d item has h = record { point = h.point; ray = h.ray; direction = h.direction; squares = h.squares; nodes_are = λ f. clash (has_nodes claim) has f }
+
+shown_more : (p : Program) (claim : Claim) (s : Place) (d : Draft) (done : List Item) (item : Item) → Accepted p s item → IsShown p claim s d done
+    → IsShown p claim (lands s item) (with_item (length p.columns) (length p.rows) item d) (done ++ item ∷ [])
+shown_more p claim s d done item a h =
+    let has = has_more claim s (item_word item) h.good.claim_is (accepted_stands p s item a) h.idle h.has in
+    record {
+      good = good_more p claim s d item a h.good;
+      told = told_more p claim s d done item a h;
+      has = has;
+      idle = idle_more claim s item has h.idle;
+      unused = unused_more claim (length p.columns) (length p.rows) d item has h.unused;
     }
 
 shown_all : (p : Program) (claim : Claim) (s : Place) (d : Draft) (done later : List Item) → Runs p s later → IsShown p claim s d done → IsShown p claim (after_all s later) (tell_all p d later) (done ++ later)
@@ -469,25 +461,23 @@ empty_blank n = record { point = zeros_zero n; ray = zeros_zero n; direction = z
 unused_blank : (claim : Claim) (n : ℕ) → AreUnused claim (blank n)
 unused_blank claim n = record { point = λ f. zeros_zero n; ray = λ f. zeros_zero n; direction = λ f. zeros_zero n; squares = λ f. refl; nodes_are = λ f. refl }
 
+told_start : (claim : Claim) (n : ℕ) → IsTold claim (start claim) (blank n) []
+told_start Optimal n = record { text = refl; opens = empty_blank n }
+told_start Infeasible n = record { text = sym (body_none (blank n) (empty_blank n)); opens = tt }
+told_start Unbounded n = record {
+  text = sym (body_none (blank n) (empty_blank n));
+  opens = record { point = zeros_zero n; ray = zeros_zero n; direction = zeros_zero n; none = record { squares = refl; nodes_are = refl } };
+}
+told_start NotConvex n = record { text = sym (body_none (blank n) (empty_blank n)); opens = record { direction = zeros_zero n; none = record { squares = refl; nodes_are = refl } } }
+
+has_start : (claim : Claim) → has_part claim (start claim).part ≡ true
+has_start claim = grind arith
+
+idle_start : (claim : Claim) → has_nodes claim ≡ false → (start claim).wanted ≡ 0
+idle_start claim e = grind arith
+
 shown_start : (p : Program) (claim : Claim) → IsShown p claim (start claim) (blank (length p.columns)) []
-shown_start p Optimal = record { good = good_start p Optimal; text = refl; opens = empty_blank (length p.columns); has = refl; idle = λ f. absurd cc; unused = unused_blank Optimal (length p.columns) }
-shown_start p Infeasible = record { good = good_start p Infeasible; text = sym (body_none (blank (length p.columns)) (empty_blank (length p.columns))); opens = tt; has = refl; idle = λ f. absurd cc; unused = unused_blank Infeasible (length p.columns) }
-shown_start p Unbounded = record {
-  good = good_start p Unbounded;
-  text = sym (body_none (blank (length p.columns)) (empty_blank (length p.columns)));
-  opens = record { point = zeros_zero (length p.columns); ray = zeros_zero (length p.columns); direction = zeros_zero (length p.columns); none = record { squares = refl; nodes_are = refl } };
-  has = refl;
-  idle = λ f. refl;
-  unused = unused_blank Unbounded (length p.columns);
-}
-shown_start p NotConvex = record {
-  good = good_start p NotConvex;
-  text = sym (body_none (blank (length p.columns)) (empty_blank (length p.columns)));
-  opens = record { direction = zeros_zero (length p.columns); none = record { squares = refl; nodes_are = refl } };
-  has = refl;
-  idle = λ f. refl;
-  unused = unused_blank NotConvex (length p.columns);
-}
+shown_start p claim = record { good = good_start p claim; told = told_start claim (length p.columns); has = has_start claim; idle = idle_start claim; unused = unused_blank claim (length p.columns) }
 
 ended_shown : (claim : Claim) (part : Part) (d : Draft) → is_ended part ≡ true → shown claim part d ≡ first (is_optimal claim) d ++ (body d ++ items.End ∷ [])
 ended_shown claim parts.Ended d e = refl
@@ -521,4 +511,4 @@ pub later_is : (p : Program) (claim : Claim) (later : List Item) → Runs p (sta
 later_is p claim later r e =
     let h = shown_all p claim (start claim) (blank (length p.columns)) [] later r (shown_start p claim) in
     let d = tell_all p (blank (length p.columns)) later in
-    h.text ∙ ended_shown claim (after_all (start claim) later).part d e ∙ all_items claim d h.unused
+    h.told.text ∙ ended_shown claim (after_all (start claim) later).part d e ∙ all_items claim d h.unused

@@ -1,8 +1,9 @@
 // Laws of the text.
 
-ghost use Rattle.std.specs.Prelude.{◌≡◌, ◌≢◌, ◌+◌, ◌-◌, ℕ, List, Ok, Err};
+ghost use Rattle.std.specs.Prelude.{◌≡◌, ◌≢◌, ◌≤◌, ◌+◌, ◌-◌, ℕ, List, Ok, Err, length};
 ghost use Rattle.program_law.specs.Program.{Program, IsProgram};
 ghost use Rattle.certificate_law.specs.declared.Certificate.{Certificate};
+ghost use Rattle.cert_fields.specs.Parts.{pieces_of};
 ghost use Rattle.cert_text.specs.declared.kinds.CertKind.{CertKind};
 ghost use Rattle.cert_text.specs.declared.kinds.CertKind.TheVariants as kinds;
 ghost use Rattle.cert_text.specs.Fronts.{Begins, IsFront, first_lines};
@@ -24,11 +25,16 @@ pub fn texts_are_read_back()
 {}
 
 /// The line at which a text leaves the grammar is the first that no certificate's text begins with: the lines before it are
-/// the front of one's text, and with it they are the front of none. Where it is missing (`CertEnd`), only the first holds.
+/// the front of one's text, and with it they are the front of none. At `CertEnd` there is no such line: all lines of the
+/// text, that is all that end with a line feed, are the front of one's text.
 pub fn faults_leave_the_grammar()
+    ensures within { (p : Program) (line : ℕ) (text : List ℕ) (at : ℕ) (kind : CertKind) → read_of p line text ≡ Err (at, kind) →
+        line ≤ at }
     ensures before { (p : Program) (line : ℕ) (text : List ℕ) (at : ℕ) (kind : CertKind) → read_of p line text ≡ Err (at, kind) →
         IsFront p (first_lines (at - line) text) }
     ensures with { (p : Program) (line : ℕ) (text : List ℕ) (at : ℕ) (kind : CertKind) (c : Certificate) → IsProgram p →
         read_of p line text ≡ Err (at, kind) → kind ≢ kinds.CertEnd → IsWritable p c → NumbersFit c →
         Begins p c (first_lines (at - line + 1) text) → ⊥ }
+    ensures end { (p : Program) (line : ℕ) (text : List ℕ) (at : ℕ) → read_of p line text ≡ Err (at, kinds.CertEnd) →
+        length (pieces_of text) ≤ at - line + 1 }
 {}
