@@ -41,9 +41,6 @@ use Rattle.cert_text.proofs.Readings.{claimed}
 
 -- ---- the items of a certificate
 
-end_items : List Item
-end_items = items.End ∷ []
-
 abbrev pub items_of : Certificate → List Item
 items_of (certificates.Optimal x v squares tree) =
     items.Value v ∷ (entries items.Point 0 x ++ (flat_map square_items squares ++ (flat_map node_items tree ++ items.End ∷ [])))

@@ -160,25 +160,16 @@ before_ray parts.Points n d e h = record { ray = h.ray; direction = h.direction;
 before_ray parts.Rays n d e h = record { ray = h.ray; direction = h.direction; none = h.none }
 before_ray part n d e h = absurd cc
 
-ray_has : (claim : Claim) (part : Part) → can claim part words.Ray ≡ true → has_part claim part ≡ true → is_unbounded claim ≡ true
-ray_has claim part e h = grind arith
-
 no_nodes : (part : Part) (n : ℕ) (d : Draft) → is_square_part part ≡ true → Opens part n d → d.nodes ≡ []
 no_nodes parts.Points n d e h = h.none.nodes_are
 no_nodes parts.Rays n d e h = h.none.nodes_are
 no_nodes parts.Squares n d e h = h.nodes_are
 no_nodes part n d e h = absurd cc
 
-square_has : (claim : Claim) (part : Part) → is_square_part part ≡ true → has_part claim part ≡ true → has_points claim ≡ true
-square_has claim part e h = grind arith
-
 before_y : (part : Part) (n : ℕ) (d : Draft) → is_leaf_part part ≡ true → Opens part n d → LastY (least_in words.Y part n) d.nodes
 before_y parts.LeafPoint n d e h = w_to_y n d.nodes h
 before_y parts.Multipliers n d e h = h
 before_y part n d e h = absurd cc
-
-y_has : (claim : Claim) (part : Part) → is_leaf_part part ≡ true → has_part claim part ≡ true → has_nodes claim ≡ true
-y_has claim part e h = grind arith
 
 wanted_has : (claim : Claim) (w : ℕ) → 0 < w → (has_nodes claim ≡ false → w ≡ 0) → has_nodes claim ≡ true
 wanted_has claim w p idle = go (has_nodes claim) refl
@@ -246,9 +237,6 @@ same_first false d e h = refl
 
 clash : {A : Type 0} (b : Bool) → b ≡ true → b ≡ false → A
 clash b e f = absurd cc
-
-optimal_points : (claim : Claim) → is_optimal claim ≡ true → has_points claim ≡ true
-optimal_points claim e = grind arith
 
 zero_next : (n j : ℕ) (v : ℚ) (vs : List ℚ) → ZeroFrom n vs → n ≤ j → ZeroFrom (j + 1) (set vs j v)
 zero_next n j v vs z le = let e : suc j ≡ j + 1 = omega arith in subst (λ k. ZeroFrom k (set vs j v)) e (put_zero n j v vs z le)
