@@ -62,7 +62,7 @@ fn read_piece<S: Source>(
     }
 }
 
-/// The whole input, which has at most `limit` bytes. Of a longer input it keeps no byte but the first past the limit.
+/// The whole input, which has at most `limit` bytes. Of a longer input it takes one byte past the limit, and no more.
 pub fn read_all<S: Source>(alloc: Global, source: &mut S, limit: usize) -> Result<Vec<u8>, ReadStop>
     requires { limit < 2 ^ 63 }
     ensures whole { IfOk result (λ text. IfSome (S.left source.old) (λ bytes. text.items ≡ bytes)) }
