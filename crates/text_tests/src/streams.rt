@@ -144,7 +144,7 @@ fn edges_pass_on_short_writes(rt: HostRuntime) -> Result<(), Fail> {
     Ok(())
 }
 
-/// More bytes than any block has, in a pattern that no block's size divides.
+/// More bytes than any block has, in a pattern whose length divides no block's.
 fn long_text(alloc: Global) -> Result<Vec<u8>, Fail> {
     let mut text = Vec::new(alloc);
     for i in 0..100_000u32 {
