@@ -1,6 +1,5 @@
 pub mod Ends
 pub mod Judged
-pub mod Pathed
 pub mod Solved
 pub mod Shown
 pub mod Enough

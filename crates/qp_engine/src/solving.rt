@@ -4,7 +4,7 @@ ghost use Rattle.std.specs.Prelude.{◌≡◌, ◌≢◌, ◌≤◌, IfOk};
 ghost use Rattle.certificate_law.specs.Good.{IsGood};
 ghost use Rattle.cert_text.specs.Writable.{IsWritable};
 ghost use Rattle.check_law.specs.Check.{answer, checked};
-ghost use Rattle.branching.specs.Stops.{IsStopOf};
+ghost use Rattle.branching.specs.Stops.{HasPathIn};
 ghost use Rattle.qp_engine.specs.Solving.{told_by, IsFoundDue, IsSolveDue, IsStopDue};
 ghost use Rattle.qp_engine.specs.Runs.{HasSolved, IsVerdict};
 
@@ -83,7 +83,7 @@ pub(crate) fn stopped(
     limits: Limits,
     stop: DecideStop,
 ) -> Result<Answer, Memory>
-    requires { IsStopOf program.now limits.bases limits.boxes stop }
+    requires { HasPathIn program.now stop }
     ensures due { IfOk result (IsStopDue program.now limits.bases stop) }
     ensures withheld { IfOk result (λ a. a.status ≡ Status.Withheld) }
 {
