@@ -16,7 +16,9 @@ pub mod RegionAnswers
 pub mod SomeAnswer
 pub mod RegionRays
 pub mod SpentSites
+pub mod OneEnd
 pub mod OneAnswer
+pub mod FirstSpent
 pub mod ValueOps
 pub mod Tested
 mod WorkedValley

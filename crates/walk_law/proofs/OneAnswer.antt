@@ -5,10 +5,6 @@ use Rattle.rational.specs.Vectors.{IsSemidefinite}
 use Rattle.program_law.specs.Region.{Region}
 use Rattle.program_law.specs.Program.{Program, IsProgram}
 use Rattle.program_law.specs.Columns.{value}
-use Rattle.basis_law.specs.Problem as linear
-use Rattle.basis_law.specs.Basis.{Tableau, IsZeroCost, IsFinal, solution_of, farkas_of}
-use Rattle.chain_law.specs.Chain.{IsChain, IsStrictStep}
-use Rattle.chain_law.proofs.OneChain.{one_chain}
 use Rattle.form_law.specs.Form.{Form, width, form_of, point_of, direction_of, multipliers_of}
 use Rattle.form_law.specs.Solutions.{IsForm, IsSolution}
 use Rattle.form_law.proofs.Shapes.{shape, semidefinite}
@@ -24,57 +20,9 @@ use Rattle.walk_law.proofs.Decided.{not_both_ends}
 use Rattle.walk_law.proofs.Descents.{prices_form_a_problem}
 use Rattle.walk_law.proofs.Directions.{feasible_is_a_problem, rays_form_a_problem}
 use Rattle.walk_law.proofs.Lengths.{one_step}
+use Rattle.walk_law.proofs.OneEnd.{order, one_solution, one_farkas}
 use Rattle.walk_law.proofs.WalkSteps.{start_solves, priced_down, newest_solves, step_leaves}
 use Rattle.walk_law.proofs.RegionAnswers.{no_point_where_empty, no_best_where_empty, no_best_where_falling}
-
-order : (i j : ℕ) → (i ≡ j) ⊎ (i < j) ⊎ (j < i)
-order i j = grind arith
-
--- ---- a problem has one end
-
-module _ (p : linear.Problem) (problem : linear.IsProblem p) where
-  Ended : Tableau → Type 0
-  Ended b = IsZeroCost p b ⊎ IsFinal p b
-
-  no_step_from : (b c : Tableau) → Ended b → IsStrictStep p b c → ⊥
-  unfolding Ended
-  no_step_from b c (inl z) step = step.costs z
-  no_step_from b c (inr f) step = f.prices step.enter step.entering.given step.entering.falling
-
-  -- a longer chain goes through each basis of the shorter lengths, and on from it
-  no_longer : (b : Tableau) (bs : List Tableau) → IsChain p (b ∷ bs) → Ended b → (cs : List Tableau) → IsChain p cs → length (b ∷ bs) < length cs → ⊥
-  no_longer b bs h e [] k l = k
-  no_longer b bs h e (c ∷ []) k l = absurd (omega arith)
-  no_longer b bs h e (c ∷ d ∷ cs) k l = by (order (length (b ∷ bs)) (length (d ∷ cs))) (no_longer b bs h e (d ∷ cs) k.1)
-    where
-      first : {a b : Tableau} {xs ys : List Tableau} → a ∷ xs ≡ b ∷ ys → a ≡ b
-      first e = cc
-
-      by : (length (b ∷ bs) ≡ length (d ∷ cs)) ⊎ (length (b ∷ bs) < length (d ∷ cs)) ⊎ (length (d ∷ cs) < length (b ∷ bs)) → (length (b ∷ bs) < length (d ∷ cs) → ⊥) → ⊥
-      by (inl s) later = no_step_from b c e (subst (λ t. IsStrictStep p t c) (sym (first (one_chain p problem (b ∷ bs) (d ∷ cs) h k.1 s))) k.0)
-      by (inr (inl m)) later = later m
-      by (inr (inr m)) later = absurd (omega arith)
-
-  one_ended : (b c : Tableau) (bs cs : List Tableau) → IsChain p (b ∷ bs) → IsChain p (c ∷ cs) → Ended b → Ended c → b ≡ c
-  one_ended b c bs cs h k d e = by (order (length (b ∷ bs)) (length (c ∷ cs)))
-    where
-      first : {a b : Tableau} {xs ys : List Tableau} → a ∷ xs ≡ b ∷ ys → a ≡ b
-      first e = cc
-
-      by : (length (b ∷ bs) ≡ length (c ∷ cs)) ⊎ (length (b ∷ bs) < length (c ∷ cs)) ⊎ (length (c ∷ cs) < length (b ∷ bs)) → b ≡ c
-      by (inl s) = first (one_chain p problem (b ∷ bs) (c ∷ cs) h k s)
-      by (inr (inl m)) = absurd (no_longer b bs h d (c ∷ cs) k m)
-      by (inr (inr m)) = absurd (no_longer c cs k e (b ∷ bs) h m)
-
-  pub one_solution : (a b : ℕ) (x y : List ℚ) → IsSolvedWithin p a x → IsSolvedWithin p b y → x ≡ y
-  unfolding Ended
-  one_solution a b x y h k =
-      h.solution ∙ ap (solution_of p) (one_ended h.basis k.basis h.ends.earlier k.ends.earlier h.ends.chain k.ends.chain (inl h.zero_cost) (inl k.zero_cost)) ∙ sym k.solution
-
-  pub one_farkas : (a b : ℕ) (x y : List ℚ) → IsRefutedWithin p a x → IsRefutedWithin p b y → x ≡ y
-  unfolding Ended
-  one_farkas a b x y h k =
-      h.farkas ∙ ap (farkas_of p) (one_ended h.basis k.basis h.ends.earlier k.ends.earlier h.ends.chain k.ends.chain (inr h.final) (inr k.final)) ∙ sym k.farkas
 
 -- ---- a form has one walk of each length
 
@@ -106,10 +54,10 @@ module _ (n : ℕ) (f : Form) (form : IsForm n f) (semi : IsSemidefinite n f.qua
     visits : (v w : Visit) → (v.point ≡ w.point) × (v.way ≡ w.way) → v ≡ w
     visits v w e = visit_is v w.point w.way e.0 e.1
 
-    heads : {a b : Visit} {xs ys : List Visit} → a ∷ xs ≡ b ∷ ys → a ≡ b
+    pub heads : {a b : Visit} {xs ys : List Visit} → a ∷ xs ≡ b ∷ ys → a ≡ b
     heads e = cc
 
-    one_walk : (vs ws : List Visit) → IsWalkFrom n f x vs → IsWalkFrom n f x ws → length vs ≡ length ws → vs ≡ ws
+    pub one_walk : (vs ws : List Visit) → IsWalkFrom n f x vs → IsWalkFrom n f x ws → length vs ≡ length ws → vs ≡ ws
     one_walk [] ws h k e = absurd h
     one_walk (v ∷ []) [] h k e = absurd k
     one_walk (v ∷ []) (w ∷ []) h k e = ap (λ t. t ∷ []) (h ∙ sym k)
@@ -162,7 +110,7 @@ module _ (p : Program) (region : Region) (is : IsProgram p) (wide : length regio
   fits : IsForm (width p region) f
   fits = shape p region is wide
 
-  one_start : (a b : ℕ) (x y : List ℚ) → IsSolvedWithin (feasible_problem f) a x → IsSolvedWithin (feasible_problem f) b y → x ≡ y
+  pub one_start : (a b : ℕ) (x y : List ℚ) → IsSolvedWithin (feasible_problem f) a x → IsSolvedWithin (feasible_problem f) b y → x ≡ y
   one_start = one_solution (feasible_problem f) (feasible_is_a_problem (width p region) f fits)
 
   pub one_found : (a b : ℕ) (x y : List ℚ) → IsFound p region a x → IsFound p region b y → x ≡ y

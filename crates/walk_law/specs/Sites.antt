@@ -15,7 +15,7 @@ use Rattle.form_law.specs.Solutions.{IsFormRay}
 use Rattle.form_law.specs.Calculation.{form_ops}
 use Rattle.face_law.specs.Small.{IsStationary}
 use Rattle.walk_law.specs.Problems.{feasible_problem, ray_problem, price_problem}
-use Rattle.walk_law.specs.Walk.{IsOnWalk, IsSpentWalk}
+use Rattle.walk_law.specs.Walk.{IsSolvedWithin, IsDecidedWithin, IsOnWalk, IsSpentWalk, IsWalkWithin}
 use Rattle.walk_law.specs.Operations.{back_ops, ray_back_ops, point_face_ops, price_ops, multiplier_ops}
 
 -- the form; a basis of the feasible chain; one of the ray chain; a point of a walk; and a basis of the price chain at such a point
@@ -67,3 +67,19 @@ IsSpentAt p region budget (AtFeasible b) = IsSpent (feasible_problem (form_of p 
 IsSpentAt p region budget (AtRay b) = IsSpent (ray_problem (form_of p region)) budget b
 IsSpentAt p region budget (AtFace z) = IsSpentWalk (width p region) (form_of p region) budget z
 IsSpentAt p region budget (AtPrice z b) = IsSpent (price_problem (form_of p region) z) budget b
+
+-- What comes before a site ends within the budget. The feasible chain comes first, then the ray chain, and then the walk, with the price
+-- chain at each stationary point before the price step that leaves it.
+abbrev pub IsWithinBefore : Program → Region → ℕ → Site → Type 0
+IsWithinBefore p region budget AtForm = Unit {0}
+IsWithinBefore p region budget (AtFeasible b) = Unit {0}
+IsWithinBefore p region budget (AtRay b) = (x : List ℚ) × IsSolvedWithin (feasible_problem (form_of p region)) budget x
+IsWithinBefore p region budget (AtFace z) =
+    IsWalkWithin (width p region) (form_of p region) budget z × IsDecidedWithin (price_problem (form_of p region) z) budget
+IsWithinBefore p region budget (AtPrice z b) = IsWalkWithin (width p region) (form_of p region) budget z
+
+-- the first site at which the budget is used up: what comes before it ends within the budget
+pub record IsFirstSpent (p : Program) (region : Region) (budget : ℕ) (site : Site) : Type 0 where
+  pub reached : IsReached p region site
+  pub before : IsWithinBefore p region budget site
+  pub spent : IsSpentAt p region budget site

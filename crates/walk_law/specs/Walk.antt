@@ -1,5 +1,5 @@
 -- Walks on a form: lists of points, the newest first, each with how it was reached.
-use Rattle.std.specs.Prelude.{◌≡◌, ◌⊎◌, ℕ, suc, ◌+◌, List, [], ◌∷◌, ◌++◌, map, All}
+use Rattle.std.specs.Prelude.{◌≡◌, ◌⊎◌, ℕ, suc, ◌+◌, ◌≤◌, List, [], ◌∷◌, ◌++◌, map, All}
 use Rattle.rational.specs.Rational.{ℚ}
 use Rattle.rational.specs.Order.{◌<ℚ◌}
 use Rattle.basis_law.specs.Problem.{Problem}
@@ -8,7 +8,7 @@ use Rattle.chain_law.specs.Chain.{EndsWithin}
 use Rattle.form_law.specs.Form.{Form}
 use Rattle.face_law.specs.Small.{IsStationary, height}
 use Rattle.face_law.specs.Step.{IsShrinkStep, moved}
-use Rattle.walk_law.specs.Problems.{feasible_problem, price_problem, direction}
+use Rattle.walk_law.specs.Problems.{feasible_problem, ray_problem, price_problem, direction}
 use Rattle.walk_law.specs.Steps.{IsPriceStep}
 
 -- ---- how a chain ends
@@ -118,6 +118,18 @@ last_shrinks (v ∷ walk) = more_if_shrink v.way (last_shrinks walk)
 -- the price chain at each stationary point of a walk ends within the budget
 abbrev pub HasPricesWithin : Form → ℕ → List Visit → Type 0
 HasPricesWithin f budget walk = All (λ v. IsStationary f v.point → IsDecidedWithin (price_problem f v.point) budget) walk
+
+-- A walk to z that keeps within the budget: the feasible chain ends at its start, and the ray chain at a final basis, within it; so does the
+-- price chain at each stationary point before z; and there are at most so many price steps.
+pub record IsWalkWithin (n : ℕ) (f : Form) (budget : ℕ) (z : List ℚ) : Type 0 where
+  pub start : List ℚ
+  pub solved : IsSolvedWithin (feasible_problem f) budget start
+  pub no_ray : (w : List ℚ) × IsRefutedWithin (ray_problem f) budget w
+  pub way : Way
+  pub earlier : List Visit
+  pub walk : IsWalkFrom n f start (record { point = z; way = way } ∷ earlier)
+  pub prices : HasPricesWithin f budget earlier
+  pub count : price_steps (record { point = z; way = way } ∷ earlier) ≤ budget
 
 -- a walk with as many price steps as the budget ends at z, which is stationary, and whose price problem isn't refuted
 pub record IsSpentWalk (n : ℕ) (f : Form) (budget : ℕ) (z : List ℚ) : Type 0 where

@@ -20,7 +20,10 @@ pub use rays::{
     chains_of_a_form_are_short, feasible_problem_tells_solutions, ray_problem_tells_rays,
     rays_depend_on_which_bounds_exist,
 };
-pub use sites::{large_budgets_are_enough, value_ends_with_its_first_refusal};
+pub use sites::{
+    budgets_are_used_up_at_one_site_first, large_budgets_are_enough,
+    value_ends_with_its_first_refusal,
+};
 pub use walks::{
     shrink_steps_keep_the_budget, walk_values_fall, walks_are_short, walks_end, walks_go_on,
 };
