@@ -4,4 +4,4 @@ mod Ended
 mod Reduced
 mod Told
 mod Pathed
-mod OneEnding
+pub mod OneEnding
