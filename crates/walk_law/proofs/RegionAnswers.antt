@@ -20,7 +20,7 @@ use Rattle.form_law.specs.Optimal.{IsOptimality}
 use Rattle.form_law.proofs.Points.{point_back}
 use Rattle.form_law.proofs.Forms.{value_back}
 use Rattle.form_law.proofs.Solving.{solution_of, solved}
-use Rattle.form_law.proofs.Rays.{ray_back}
+use Rattle.form_law.proofs.Rays.{ray_back, ray_from, ray_of}
 use Rattle.form_law.proofs.FarkasBack.{farkas_back}
 use Rattle.form_law.proofs.BoundBack.{bound_back}
 use Rattle.form_law.proofs.Shapes.{shape, semidefinite}
@@ -31,7 +31,7 @@ use Rattle.walk_law.specs.Steps.{curvature}
 use Rattle.walk_law.specs.Answer.{IsFound, IsEmpty, IsFalling, IsBest}
 use Rattle.walk_law.proofs.Decided.{solved_is_solution, refuted_is_farkas, not_both_ends}
 use Rattle.walk_law.proofs.Descents.{prices_form_a_problem, length-slope, entry_nonneg}
-use Rattle.walk_law.proofs.Directions.{feasible_is_a_problem, rays_form_a_problem, solution_is_ray, feasible_solutions, feasible_refutations}
+use Rattle.walk_law.proofs.Directions.{refuted_has_none, feasible_is_a_problem, rays_form_a_problem, solution_is_ray, feasible_solutions, feasible_refutations}
 use Rattle.walk_law.proofs.Refuted.{multipliers_optimal}
 use Rattle.walk_law.proofs.Stationary.{less_itself, there}
 use Rattle.walk_law.proofs.WalkSteps.{newest_solves}
@@ -121,6 +121,11 @@ module _ (p : Program) (region : Region) (is : IsProgram p) (wide : length regio
   falling_is_ray budget x d h =
       subst (IsRegionRay p region) (sym h.direction)
       (ray_back p region h.ray is wide (solution_is_ray f h.ray (solved_is_solution (ray_problem f) (rays_form_a_problem (width p region) f fits) budget h.ray h.solved)))
+
+  pub best_has_no_ray : (budget : ℕ) (x : List ℚ) (least : ℚ) (y d : List ℚ) → IsBest p region budget x least y → IsRegionRay p region d → ⊥
+  best_has_no_ray budget x least y d h r =
+      refuted_has_none (width p region) f (ray_of p region d) h.no_ray.0 fits
+      (refuted_is_farkas (ray_problem f) (rays_form_a_problem (width p region) f fits) budget h.no_ray.0 h.no_ray.1) (ray_from p region d is wide r).0
 
   module _ (semi : IsSemidefinite (length p.columns) p.pairs) (budget : ℕ) (x : List ℚ) (least : ℚ) (y : List ℚ) (h : IsBest p region budget x least y) where
     convex : IsSemidefinite (width p region) f.quadratic

@@ -15,7 +15,7 @@ ghost use Rattle.walk_law.specs.Worked.{n, minus, minus_over, over, hill, portfo
 
 /// What a region's answer says is true of the region: its multipliers are a good FARKAS leaf; or its point is one of the
 /// region, and its direction one along which the values fall without end; or its point is one of the region with the least
-/// value, and its multipliers are a good BOUND leaf there.
+/// value, its multipliers are a good BOUND leaf there, and the region has no ray.
 pub fn answers_are_true()
     ensures empty { (p : Program) (region : Region) (budget : ℕ) (y : List ℚ) → IsProgram p → length region ≡ length p.columns →
         (IsCrossedRegion region → ⊥) → IsEmpty p region budget y → IsGoodFarkas p region y }
@@ -32,6 +32,8 @@ pub fn answers_are_true()
     ensures least { (p : Program) (region : Region) (budget : ℕ) (x : List ℚ) (least : ℚ) (y : List ℚ) → IsProgram p →
         length region ≡ length p.columns → IsSemidefinite (length p.columns) p.pairs → IsBest p region budget x least y →
         (w : List ℚ) → IsRelaxedPoint p region w → least ≤ℚ value p w }
+    ensures no_ray { (p : Program) (region : Region) (budget : ℕ) (x : List ℚ) (least : ℚ) (y d : List ℚ) → IsProgram p →
+        length region ≡ length p.columns → IsBest p region budget x least y → IsRegionRay p region d → ⊥ }
 {}
 
 /// The cases of a region's answer exclude each other, whatever the budgets.
