@@ -1,4 +1,4 @@
-/* Products of vectors and elimination over FLINT's fmpq. */
+/* Products of vectors and systems of equations over FLINT's fmpq. */
 #include "numbers.h"
 #include <flint/fmpq.h>
 
@@ -54,14 +54,16 @@ static uint64_t dots(kind k, long size, uint64_t count)
     return sum;
 }
 
-static void eliminate(fmpq *m, long n, fmpq_t factor, fmpq_t product)
+/* Eliminates the columns of the matrix in [matrix | right sides | unit matrix], and says which row has the pivot of each. */
+static void eliminate(fmpq *m, long n, long *row_of, fmpq_t factor, fmpq_t product)
 {
-    long w = n + 1;
+    long w = 2 * n + 1;
     char *used = calloc(n, 1);
     for (long j = 0; j < n; j++) {
         long p = 0;
         while (p < n && (used[p] || fmpq_is_zero(m + p * w + j)))
             p++;
+        row_of[j] = p;
         if (p == n)
             continue;
         fmpq_set(factor, m + p * w + j);
@@ -91,7 +93,8 @@ static uint64_t eliminations(kind k, long n, uint64_t count)
     fmpq_init(factor);
     fmpq_init(product);
     mpq_init(number);
-    long w = n + 1;
+    long w = 2 * n + 1;
+    long *row_of = malloc(n * sizeof *row_of);
     fmpq *given = malloc(n * w * sizeof *given), *m = malloc(n * w * sizeof *m);
     for (long i = 0; i < n * w; i++) {
         fmpq_init(given + i);
@@ -104,14 +107,16 @@ static uint64_t eliminations(kind k, long n, uint64_t count)
         }
         some_right(number, k);
         fmpq_set_mpq(given + i * w + n, number);
+        fmpq_one(given + i * w + n + 1 + i);
     }
     uint64_t sum = 0;
     for (uint64_t turn = 0; turn < count; turn++) {
         for (long i = 0; i < n * w; i++)
             fmpq_set(m + i, given + i);
-        eliminate(m, n, factor, product);
-        for (long i = 0; i < n; i++)
-            sum = with_fmpq(sum, m + i * w + n);
+        eliminate(m, n, row_of, factor, product);
+        fmpq_zero(product);
+        for (long j = 0; j < n; j++)
+            sum = with_fmpq(sum, row_of[j] < n ? m + row_of[j] * w + n : product);
     }
     return sum;
 }

@@ -1,4 +1,4 @@
-/* Products of vectors and elimination over GMP's mpq. */
+/* Products of vectors and systems of equations over GMP's mpq. */
 #include "numbers.h"
 
 static mpq_t *filled(long n, kind k, int is_left)
@@ -37,14 +37,16 @@ static uint64_t dots(kind k, long size, uint64_t count)
     return sum;
 }
 
-static void eliminate(mpq_t *m, long n, mpq_t factor, mpq_t product)
+/* Eliminates the columns of the matrix in [matrix | right sides | unit matrix], and says which row has the pivot of each. */
+static void eliminate(mpq_t *m, long n, long *row_of, mpq_t factor, mpq_t product)
 {
-    long w = n + 1;
+    long w = 2 * n + 1;
     char *used = calloc(n, 1);
     for (long j = 0; j < n; j++) {
         long p = 0;
         while (p < n && (used[p] || mpq_sgn(m[p * w + j]) == 0))
             p++;
+        row_of[j] = p;
         if (p == n)
             continue;
         mpq_set(factor, m[p * w + j]);
@@ -71,7 +73,8 @@ static uint64_t eliminations(kind k, long n, uint64_t count)
 {
     mpq_t factor, product;
     mpq_inits(factor, product, NULL);
-    long w = n + 1;
+    long w = 2 * n + 1;
+    long *row_of = malloc(n * sizeof *row_of);
     mpq_t *given = malloc(n * w * sizeof *given), *m = malloc(n * w * sizeof *m);
     for (long i = 0; i < n * w; i++)
         mpq_inits(given[i], m[i], NULL);
@@ -79,14 +82,16 @@ static uint64_t eliminations(kind k, long n, uint64_t count)
         for (long j = 0; j < n; j++)
             some_entry(given[i * w + j], k, i, j);
         some_right(given[i * w + n], k);
+        mpq_set_ui(given[i * w + n + 1 + i], 1, 1);
     }
     uint64_t sum = 0;
     for (uint64_t turn = 0; turn < count; turn++) {
         for (long i = 0; i < n * w; i++)
             mpq_set(m[i], given[i]);
-        eliminate(m, n, factor, product);
-        for (long i = 0; i < n; i++)
-            sum = with_result(sum, m[i * w + n]);
+        eliminate(m, n, row_of, factor, product);
+        mpq_set_ui(product, 0, 1);
+        for (long j = 0; j < n; j++)
+            sum = with_result(sum, row_of[j] < n ? m[row_of[j] * w + n] : product);
     }
     return sum;
 }

@@ -13,9 +13,9 @@ use Rattle.certificate_law.specs.declared.Node.TheVariants.{Branch, Bound, Farka
 use Rattle.certificate_law.specs.declared.Certificate.{Certificate}
 use Rattle.certificate_law.specs.declared.Certificate.TheVariants.{Optimal, Infeasible, Unbounded}
 use Rattle.certificate_law.specs.Nodes.{IsOneTree}
-use Rattle.check_law.specs.Fits.{IsColumnVector, FitsTree}
+use Rattle.cert_check_law.specs.Fits.{IsColumnVector, FitsTree}
 use Rattle.cert_text.specs.Writable.{branch_count, IsWritable}
-use Rattle.walk_law.specs.Answer.{IsFound, IsFalling}
+use Rattle.quad_solve_law.specs.Answer.{IsFound, IsFalling}
 use Rattle.branching_law.specs.declared.Turn.{Turn}
 use Rattle.branching_law.specs.Paths.{region_of}
 use Rattle.branching_law.specs.Rounding.{IsMarked, IsRounding, under_rounding}
@@ -36,8 +36,8 @@ use Rattle.search_steps.specs.declared.progress.Progress.{Progress}
 use Rattle.search_steps.specs.Incumbents.{point_of, HasValue}
 use Rattle.search_steps.specs.Trails.{path_of, waiting_of, paths_left, IsTrail}
 use Rattle.search_steps.specs.Trees.{nodes_before, nodes_behind}
-use Rattle.search_steps.specs.Progressing.{IsOnWay, IsPathForBest, IsRoot}
-use Rattle.branching.specs.Reaching.{IsEndedBy}
+use Rattle.search_steps.specs.Progressing.{IsOnWay, IsRoot}
+use Rattle.branching.specs.Reaching.{IsEndedBy, IsPathOf}
 use Rattle.branching.specs.Decided.{AreSquaresFor}
 use Rattle.search_steps.proofs.Ways.{root_path, root_waiting}
 use Rattle.search_steps.proofs.Around.{around}
@@ -94,12 +94,13 @@ point_starts p squares bases boxes root progress x d is sum h marked uncrossed f
     (point_begins p squares bases boxes root x d is sum h marked (subst (λ (r : Region). IsCrossedRegion r → ⊥) (root_region p root h) uncrossed)
     (subst (λ (r : Region). IsFalling p r bases x d) (root_region p root h) falling))
 
-pub root_for_best : (p : Program) (squares : List Square) (bases : ℕ) (root : Trail) → IsProgram p → AreSquaresFor p squares → IsRoot p root → IsPathForBest p bases (path_of root)
-root_for_best p squares bases root is sum h = record {
+pub root_for_best : (p : Program) (squares : List Square) (bases boxes : ℕ) (root : Trail) → IsProgram p → AreSquaresFor p squares → IsRoot p root → IsPathOf ForBest p bases boxes (path_of root)
+root_for_best p squares bases boxes root is sum h = record {
   turns = root.turns;
   nodes = [];
   waiting = [];
-  earned = subst (λ (w : List Turn). IsEarned ForBest p bases root.turns [] (w ∷ [])) (sym (root_path root h.first)) (best_begins p squares bases 0 root is sum h).earned;
+  earned = subst (λ (w : List Turn). IsEarned ForBest p bases root.turns [] (w ∷ [])) (sym (root_path root h.first)) (best_begins p squares bases boxes root is sum h).earned;
+  few = omega arith;
 }
 
 -- ---- the tree

@@ -1,11 +1,11 @@
 -- Stops at the path at hand.
-use Rattle.std.specs.Prelude.{◌≡◌, ℕ, List, [], ◌∷◌}
+use Rattle.std.specs.Prelude.{◌≡◌, ℕ, ◌≤◌, List, [], ◌∷◌}
 use Rattle.std.proofs.Common.{refl, sym, subst, inl, inr}
 use Rattle.program_law.specs.Region.{Region, IsCrossedRegion}
 use Rattle.program_law.specs.Program.{Program}
 use Rattle.certificate_law.specs.declared.Node.{Node}
-use Rattle.walk_law.specs.Sites.{AtForm, AtFeasible, AtRay, AtFace, AtPrice}
-use Rattle.walk_law.specs.Sites as calculation
+use Rattle.quad_solve_law.specs.Sites.{AtForm, AtFeasible, AtRay, AtFace, AtPrice}
+use Rattle.quad_solve_law.specs.Sites as calculation
 use Rattle.quad_solve.specs.declared.sites.Site.{Site}
 use Rattle.quad_solve.specs.declared.sites.Site.TheVariants.{Form, Chain, Face}
 use Rattle.quad_solve.specs.declared.sites.Task.TheVariants.{Feasible, Ray, Price}
@@ -17,7 +17,8 @@ use Rattle.branching_law.specs.declared.Turn.{Turn}
 use Rattle.branching_law.specs.Paths.{region_of}
 use Rattle.branching_law.specs.Nodes.{ForBest, ForPoint}
 use Rattle.branching_law.specs.Reached.{IsFeasibilitySite, IsAsked, IsReachedPath, IsReachedSite}
-use Rattle.search_steps.specs.Progressing.{IsPathForBest, IsPathForPoint}
+use Rattle.branching_law.specs.Search.{branches}
+use Rattle.branching.specs.Reaching.{IsPathOf}
 use Rattle.branching.specs.Stops.{IsStopOf, stop_on}
 
 abbrev IsSiteOf : RelaxStop → Site → Type 0
@@ -25,17 +26,18 @@ IsSiteOf Memory site = ⊥
 IsSiteOf (Spent place) site = site ≡ place
 IsSiteOf (Past place r) site = site ≡ place
 
-module _ (p : Program) (bases boxes : ℕ) (path : List Turn) (uncrossed : IsCrossedRegion (region_of p path) → ⊥) (comes : IsReachedPath p bases path) where
+module _ (p : Program) (bases boxes : ℕ) (path : List Turn) (uncrossed : IsCrossedRegion (region_of p path) → ⊥) (comes : IsReachedPath p bases path) (few : branches comes.nodes ≤ boxes) where
   at_site : (place : calculation.Site) → IsAsked comes.aim comes.nodes place → calculation.IsReached p (region_of p path) place → IsReachedSite p bases path place
   at_site place asked reached = record { comes = comes; uncrossed = uncrossed; asked = asked; reached = reached }
 
   halted : (stop : RelaxStop) → ((place : calculation.Site) (site : Site) → IsNamed place site → IsSiteOf stop site → IsAsked comes.aim comes.nodes place)
       → region.IsStopOf p (region_of p path) bases stop → IsStopOf p bases boxes (stop_on path stop)
+  unfolding at_site
   halted Memory asked h = tt
   halted (Spent site) asked h = record {
     place = h.place;
     named = h.named;
-    spent = record { reached = at_site h.place (asked h.place site h.named refl) h.reached; spent = h.spent };
+    spent = record { reached = at_site h.place (asked h.place site h.named refl) h.spent.reached; first = h.spent; few = few };
   }
   halted (Past site r) asked h =
       inr (record {
@@ -44,10 +46,10 @@ module _ (p : Program) (bases boxes : ℕ) (path : List Turn) (uncrossed : IsCro
         past = record { reached = at_site h.place (asked h.place site h.named refl) h.reached; stands = h.stands; past = h.past };
       })
 
-best_halted : (p : Program) (bases boxes : ℕ) (path : List Turn) → (IsCrossedRegion (region_of p path) → ⊥) → IsPathForBest p bases path → (stop : RelaxStop)
+best_halted : (p : Program) (bases boxes : ℕ) (path : List Turn) → (IsCrossedRegion (region_of p path) → ⊥) → IsPathOf ForBest p bases boxes path → (stop : RelaxStop)
     → region.IsStopOf p (region_of p path) bases stop → IsStopOf p bases boxes (stop_on path stop)
 best_halted p bases boxes path uncrossed h stop is =
-    halted p bases boxes path uncrossed (record { aim = ForBest; turns = h.turns; nodes = h.nodes; open_paths = h.waiting; earned = h.earned }) stop (λ place site named at. tt) is
+    halted p bases boxes path uncrossed (record { aim = ForBest; turns = h.turns; nodes = h.nodes; open_paths = h.waiting; earned = h.earned }) h.few stop (λ place site named at. tt) is
 
 -- a site of feasibility is asked for in each search
 feasible_place : (place : calculation.Site) (site : Site) → IsNamed place site → region.IsOfFeasibility site → IsFeasibilitySite place
@@ -84,19 +86,19 @@ site_of_stop Memory site f at = absurd at
 site_of_stop (Spent place) site f at = subst region.IsOfFeasibility (sym at) f
 site_of_stop (Past place r) site f at = subst region.IsOfFeasibility (sym at) f
 
-point_halted : (p : Program) (bases boxes : ℕ) (path : List Turn) → (IsCrossedRegion (region_of p path) → ⊥) → IsPathForPoint p bases path → (stop : RelaxStop)
+point_halted : (p : Program) (bases boxes : ℕ) (path : List Turn) → (IsCrossedRegion (region_of p path) → ⊥) → IsPathOf ForPoint p bases boxes path → (stop : RelaxStop)
     → StopsAtFeasibility stop → region.IsStopOf p (region_of p path) bases stop → IsStopOf p bases boxes (stop_on path stop)
 point_halted p bases boxes path uncrossed h stop feasible is =
-    halted p bases boxes path uncrossed (record { aim = ForPoint; turns = h.turns; nodes = h.nodes; open_paths = h.waiting; earned = h.earned }) stop
+    halted p bases boxes path uncrossed (record { aim = ForPoint; turns = h.turns; nodes = h.nodes; open_paths = h.waiting; earned = h.earned }) h.few stop
     (λ place site named at. feasible_asked h.nodes place (feasible_place place site named (site_of_stop stop site feasible at))) is
 
 -- the same at the region as it is kept
 pub best_stop : (p : Program) (r : Region) (bases boxes : ℕ) (path : List Turn) (stop : RelaxStop) → r ≡ region_of p path → (IsCrossedRegion r → ⊥)
-    → IsPathForBest p bases path → region.IsStopOf p r bases stop → IsStopOf p bases boxes (stop_on path stop)
+    → IsPathOf ForBest p bases boxes path → region.IsStopOf p r bases stop → IsStopOf p bases boxes (stop_on path stop)
 best_stop p r bases boxes path stop e uncrossed h is =
     best_halted p bases boxes path (subst (λ (r : Region). IsCrossedRegion r → ⊥) e uncrossed) h stop (subst (λ (r : Region). region.IsStopOf p r bases stop) e is)
 
 pub point_stop : (p : Program) (r : Region) (bases boxes : ℕ) (path : List Turn) (stop : RelaxStop) → r ≡ region_of p path → (IsCrossedRegion r → ⊥)
-    → IsPathForPoint p bases path → StopsAtFeasibility stop → region.IsStopOf p r bases stop → IsStopOf p bases boxes (stop_on path stop)
+    → IsPathOf ForPoint p bases boxes path → StopsAtFeasibility stop → region.IsStopOf p r bases stop → IsStopOf p bases boxes (stop_on path stop)
 point_stop p r bases boxes path stop e uncrossed h feasible is =
     point_halted p bases boxes path (subst (λ (r : Region). IsCrossedRegion r → ⊥) e uncrossed) h stop feasible (subst (λ (r : Region). region.IsStopOf p r bases stop) e is)

@@ -4,3 +4,4 @@ mod Ended
 mod Reduced
 mod Told
 mod Pathed
+pub mod OneEnding

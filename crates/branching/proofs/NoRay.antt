@@ -4,7 +4,7 @@ use Rattle.std.proofs.Common.{refl, subst}
 use Rattle.program_law.specs.Region.{Region}
 use Rattle.program_law.specs.Program.{Program, IsProgram}
 use Rattle.certificate_law.specs.declared.Node.{Node}
-use Rattle.walk_law.specs.Answer.{IsFalling}
+use Rattle.quad_solve_law.specs.Answer.{IsFalling}
 use Rattle.quad_solve.specs.Relaxation.{IsRelaxedOf}
 use Rattle.quad_solve.specs.declared.relaxation.Relaxed.{Relaxed}
 use Rattle.quad_solve.specs.declared.relaxation.Relaxed.TheVariants.{Crossed, Empty, Ray, Best}

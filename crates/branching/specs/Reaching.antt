@@ -1,15 +1,26 @@
--- What a search for a point comes to.
-use Rattle.std.specs.Prelude.{◌≡◌, ℕ, ◌<◌, List, length, Option, Some, None, true, false}
+-- What a search comes to: the path at hand, and how a search for a point ends.
+use Rattle.std.specs.Prelude.{◌≡◌, ℕ, ◌<◌, ◌≤◌, List, ◌∷◌, length, Option, Some, None, true, false}
 use Rattle.rational.specs.Rational.{ℚ}
 use Rattle.program_law.specs.Region.{IsCrossedRegion}
 use Rattle.program_law.specs.Program.{Program, marks}
 use Rattle.program_law.specs.Columns.{AreWholeOn}
-use Rattle.walk_law.specs.Answer.{IsFound}
-use Rattle.branching_law.specs.Nodes.{ForPoint}
+use Rattle.quad_solve_law.specs.Answer.{IsFound}
+use Rattle.certificate_law.specs.declared.Node.{Node}
+use Rattle.branching_law.specs.declared.Turn.{Turn}
+use Rattle.branching_law.specs.Nodes.{Search, ForPoint}
+use Rattle.branching_law.specs.Search.{IsEarned, branches}
 use Rattle.search_steps.specs.declared.progress.Progress.{Progress}
 use Rattle.branching.specs.declared.point.Outcome.{Outcome}
 use Rattle.branching.specs.declared.point.Outcome.TheVariants.{Found, More, Done}
 use Rattle.search_steps.specs.Progressing.{IsOnWay, work_left}
+
+-- the path that waits first in a search with at most so many branches
+pub record IsPathOf (aim : Search) (p : Program) (bases boxes : ℕ) (path : List Turn) : Type 0 where
+  pub turns : List Turn
+  pub nodes : List Node
+  pub waiting : List (List Turn)
+  pub earned : IsEarned aim p bases turns nodes (path ∷ waiting)
+  pub few : branches nodes ≤ boxes
 
 -- a point that keeps the marks, at the path at hand
 pub record IsEndedBy (p : Program) (bases boxes : ℕ) (x : List ℚ) (progress : Progress) : Type 0 where

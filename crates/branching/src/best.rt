@@ -3,11 +3,12 @@
 ghost use Rattle.std.specs.Prelude.{◌≡◌, ◌<◌, length, true, false, IfOk, IfErr, OnOk};
 ghost use Rattle.program_law.specs.Region.{IsCrossedRegion};
 ghost use Rattle.certificate_law.specs.Squares.{AreSquaresOf};
-ghost use Rattle.walk_law.specs.Answer.{IsBest};
+ghost use Rattle.quad_solve_law.specs.Answer.{IsBest};
 ghost use Rattle.quad_solve.specs.Relaxation.{HasLengths, IsRelaxedOf};
 ghost use Rattle.branching_law.specs.Nodes.{ForBest};
-ghost use Rattle.search_steps.specs.Progressing.{HasBegun, IsOnWay, IsPathForBest, work_left};
+ghost use Rattle.search_steps.specs.Progressing.{HasBegun, IsOnWay, work_left};
 ghost use Rattle.branching.specs.Rays.{IsNoRay};
+ghost use Rattle.branching.specs.Reaching.{IsPathOf};
 ghost use Rattle.branching.specs.Stops.{IsStopOf};
 ghost use Rattle.search_steps.specs.Trails.{path_of, IsTrail};
 
@@ -32,7 +33,7 @@ pub fn relaxed(
 ) -> Result<Relaxed, DecideStop>
     requires squares { AreSquaresOf p.now.pairs squares.now }
     requires trail { IsTrail p.now trail.now }
-    requires path { IsPathForBest p.now limits.bases (path_of trail.now) }
+    requires path { IsPathOf ForBest p.now limits.bases limits.boxes (path_of trail.now) }
     ensures answer { IfOk result (IsRelaxedOf p.now trail.now.region limits.bases) }
     ensures lengths { IfOk result (HasLengths p.now) }
     ensures stop { IfErr result (IsStopOf p.now limits.bases limits.boxes) }

@@ -2,7 +2,7 @@
 
 ghost use Rattle.std.specs.Prelude.{◌≤◌, IfOk, IfErr, false};
 ghost use Rattle.program_law.specs.Region.{IsCrossedRegion};
-ghost use Rattle.walk_law.specs.Answer.{IsFalling};
+ghost use Rattle.quad_solve_law.specs.Answer.{IsFalling};
 ghost use Rattle.cert_text.specs.Writable.{IsWritable};
 ghost use Rattle.branching_law.specs.Found.{Convex, IsFoundOf};
 ghost use Rattle.branching_law.specs.Nodes.{Search};
@@ -12,7 +12,7 @@ ghost use Rattle.search_steps.specs.Progressing.{IsOnWay, IsRoot};
 ghost use Rattle.branching.specs.Rays.{IsNoRay};
 ghost use Rattle.branching.specs.Stops.{IsStopOf};
 ghost use Rattle.quad_solve.specs.Relaxation.{HasLengths, IsRelaxedOf};
-ghost use Rattle.check_law.specs.Fits.{IsColumnVector};
+ghost use Rattle.cert_check_law.specs.Fits.{IsColumnVector};
 
 use crate::Limits;
 use crate::best::{best_searched, relaxed};

@@ -3,13 +3,14 @@
 
 mod best;
 mod deciding;
+mod endings;
 mod point;
 mod stops;
 
 ghost use Rattle.std.specs.Prelude.{◌≤◌, ◌↔◌, IfOk, IfErr};
 ghost use Rattle.certificate_law.specs.Good.{IsGood};
-ghost use Rattle.check_law.specs.Chain.{NoTestFails};
-ghost use Rattle.check_law.specs.Check.{checked};
+ghost use Rattle.cert_check_law.specs.Chain.{NoTestFails};
+ghost use Rattle.cert_check_law.specs.Check.{checked};
 ghost use Rattle.cert_text.specs.Writable.{IsWritable};
 ghost use Rattle.branching.specs.Decided.{ClaimsCurved, IsCurved, IsFound};
 ghost use Rattle.branching.specs.Stops.{HasPathIn, IsStopOf};
@@ -18,6 +19,7 @@ use crate::deciding::convex;
 pub use branching_law::{Cut, Turn};
 use certificate_law::Certificate;
 use convexity::{Curvature, squares};
+pub use endings::programs_have_one_ending;
 use exact_matrix::Stop;
 use program_model::Program;
 use quad_solve::Site;
@@ -47,7 +49,7 @@ pub struct Limits {
 ///
 /// # Errors
 ///
-/// `Bases` where a chain or a walk would go on after `bases` steps, `Boxes` where a branch more than `boxes` was due, `Past` where the
+/// `Bases` at the first site at which a chain or a walk would go on after `bases` steps, `Boxes` where a branch more than `boxes` was due, `Past` where the
 /// exact result of an operation doesn't fit, each with the path and the site where there is one; and `Memory`.
 pub fn decide(alloc: Global, p: &Program, limits: Limits) -> Result<Certificate, DecideStop>
     requires { limits.boxes ≤ 20000 }

@@ -2,11 +2,11 @@
 
 ghost use Rattle.std.specs.Prelude.{◌≡◌, length, true, IfOk, IfErr, if◌then◌else◌};
 ghost use Rattle.program_law.specs.Region.{IsCrossedRegion};
-ghost use Rattle.walk_law.specs.Answer.{IsFound};
+ghost use Rattle.quad_solve_law.specs.Answer.{IsFound};
 ghost use Rattle.quad_solve.specs.Answers.{HasSizes, IsAnyPointOf};
 ghost use Rattle.branching_law.specs.Nodes.{ForPoint};
-ghost use Rattle.search_steps.specs.Progressing.{IsOnWay, IsPathForPoint};
-ghost use Rattle.branching.specs.Reaching.{EndsIn, IsTakenTo};
+ghost use Rattle.search_steps.specs.Progressing.{IsOnWay};
+ghost use Rattle.branching.specs.Reaching.{EndsIn, IsPathOf, IsTakenTo};
 ghost use Rattle.branching.specs.Stops.{IsStopOf};
 ghost use Rattle.search_steps.specs.Trails.{path_of, IsTrail};
 
@@ -46,7 +46,7 @@ fn pointed(
     trail: &Trail,
 ) -> Result<AnyPoint, DecideStop>
     requires trail { IsTrail p.now trail.now }
-    requires path { IsPathForPoint p.now limits.bases (path_of trail.now) }
+    requires path { IsPathOf ForPoint p.now limits.bases limits.boxes (path_of trail.now) }
     ensures answer { IfOk result (IsAnyPointOf p.now trail.now.region limits.bases) }
     ensures sizes { IfOk result (HasSizes p.now) }
     ensures stop { IfErr result (IsStopOf p.now limits.bases limits.boxes) }

@@ -19,8 +19,8 @@ use Rattle.program_law.specs.Columns.{IsRelaxedPoint, value}
 use Rattle.certificate_law.specs.declared.Node.{Node}
 use Rattle.certificate_law.specs.declared.Node.TheVariants.{Branch, Bound, Farkas, Cross}
 use Rattle.certificate_law.specs.Tree.{is_marked}
-use Rattle.check_law.specs.Tree.{bounds_at}
-use Rattle.walk_law.proofs.RegionAnswers.{found_is_point, best_is_point}
+use Rattle.cert_check_law.specs.Tree.{bounds_at}
+use Rattle.quad_solve_law.proofs.RegionAnswers.{found_is_point, best_is_point}
 use Rattle.branching_law.specs.declared.Turn.{Turn}
 use Rattle.branching_law.specs.Paths.{region_of, below, above}
 use Rattle.branching_law.specs.Rounding.{IsMarkedAt, IsRounding}

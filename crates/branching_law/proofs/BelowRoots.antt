@@ -10,18 +10,18 @@ use Rattle.certificate_law.specs.declared.Node.{Node}
 use Rattle.certificate_law.specs.declared.Node.TheVariants.{Branch, Bound, Farkas, Cross}
 use Rattle.certificate_law.proofs.Leaves.{farkas}
 use Rattle.certificate_law.proofs.Trees.{crossed}
-use Rattle.form_law.specs.Form.{width, form_of}
-use Rattle.form_law.specs.Solutions.{IsRegionRay}
-use Rattle.form_law.proofs.Rays.{ray_of, ray_from}
-use Rattle.form_law.proofs.Shapes.{shape}
-use Rattle.walk_law.specs.Problems.{ray_problem}
-use Rattle.walk_law.specs.Answer.{IsFalling, IsBest}
-use Rattle.walk_law.specs.Sites.{Site, HasNoRay}
-use Rattle.walk_law.proofs.Decided.{refuted_is_farkas}
-use Rattle.walk_law.proofs.Directions.{rays_form_a_problem, refuted_has_none}
-use Rattle.walk_law.proofs.RegionAnswers.{found_is_point, falling_is_ray, empty_is_good}
-use Rattle.walk_law.proofs.RegionRays.{no_ray_within}
-use Rattle.walk_law.proofs.SpentSites.{spent_is_small}
+use Rattle.equational_law.specs.Form.{width, form_of}
+use Rattle.equational_law.specs.Solutions.{IsRegionRay}
+use Rattle.equational_law.proofs.Rays.{ray_of, ray_from}
+use Rattle.equational_law.proofs.Shapes.{shape}
+use Rattle.quad_solve_law.specs.Problems.{ray_problem}
+use Rattle.quad_solve_law.specs.Answer.{IsFalling, IsBest}
+use Rattle.quad_solve_law.specs.Sites.{Site, HasNoRay}
+use Rattle.quad_solve_law.proofs.Decided.{refuted_is_farkas}
+use Rattle.quad_solve_law.proofs.Directions.{rays_form_a_problem, refuted_has_none}
+use Rattle.quad_solve_law.proofs.RegionAnswers.{found_is_point, falling_is_ray, empty_is_good}
+use Rattle.quad_solve_law.proofs.RegionRays.{no_ray_within}
+use Rattle.quad_solve_law.proofs.SpentSites.{spent_is_small}
 use Rattle.branching_law.specs.declared.Turn.{Turn}
 use Rattle.branching_law.specs.Paths.{behind, region_behind, region_of, below, above}
 use Rattle.branching_law.specs.Rounding.{IsMarked}

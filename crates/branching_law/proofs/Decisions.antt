@@ -11,7 +11,7 @@ use Rattle.program_law.specs.Region.{Region, IsCrossedAt, IsCrossedRegion}
 use Rattle.program_law.specs.Program.{Program, marks}
 use Rattle.program_law.specs.Columns.{IsWhole, AreWholeOn}
 use Rattle.certificate_law.specs.Tree.{is_marked}
-use Rattle.check_law.specs.Tree.{is_above, bounds_at}
+use Rattle.cert_check_law.specs.Tree.{is_above, bounds_at}
 use Rattle.branching_law.specs.declared.Turn.{Turn}
 use Rattle.branching_law.specs.Paths.{region_of, below, above, IsFirst}
 use Rattle.branching_law.specs.Rounding.{IsMarkedAt, IsMarked, IsFractional, IsBroken, IsRounding, IsRoundingTo}

@@ -8,7 +8,7 @@ use Rattle.program_law.specs.Tests.{is_le}
 use Rattle.program_law.proofs.Numbers.{lt_test, lt_tested}
 use Rattle.program_law.specs.declared.Row.{Row}
 use Rattle.program_law.specs.Region.{Region, IsCrossed, IsCrossedAt, IsCrossedRegion}
-use Rattle.check_law.specs.Tree.{is_above}
+use Rattle.cert_check_law.specs.Tree.{is_above}
 use Rattle.branching_law.specs.Paths.{IsFirst}
 
 abbrev test : Row → Bool

@@ -9,9 +9,9 @@ use Rattle.rational.specs.Vectors.{dot, unit_vector}
 use Rattle.program_law.specs.declared.Row.{Row}
 use Rattle.program_law.specs.Region.{Region}
 use Rattle.program_law.specs.Program.{Program, sides}
-use Rattle.form_law.specs.Standing.{standing_by, parts_at, parts, shift, spread}
-use Rattle.form_law.specs.Equations.{count_by, row_equations_by, slacks_at, row_equations, bound_equation_by, bound_slacks_by, bound_equations, row_slacks, bound_slacks, matrix_row}
-use Rattle.form_law.specs.Form.{equations, slacks, width, form_of}
+use Rattle.equational_law.specs.Standing.{standing_by, parts_at, parts, shift, spread}
+use Rattle.equational_law.specs.Equations.{count_by, row_equations_by, slacks_at, row_equations, bound_equation_by, bound_slacks_by, bound_equations, row_slacks, bound_slacks, matrix_row}
+use Rattle.equational_law.specs.Form.{equations, slacks, width, form_of}
 use Rattle.branching_law.specs.declared.Turn.{Turn}
 use Rattle.branching_law.specs.Paths.{region_of}
 use Rattle.branching_law.proofs.Trees.{wide}

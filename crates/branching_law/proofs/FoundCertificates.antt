@@ -12,9 +12,9 @@ use Rattle.certificate_law.specs.Nodes.{IsOneTree}
 use Rattle.certificate_law.specs.Tree.{IsGoodTree}
 use Rattle.certificate_law.specs.Ray.{IsRay}
 use Rattle.certificate_law.specs.Good.{IsGood}
-use Rattle.form_law.proofs.Rays.{is_ray}
-use Rattle.walk_law.specs.Answer.{IsFalling}
-use Rattle.walk_law.proofs.RegionAnswers.{found_is_point, falling_is_ray}
+use Rattle.equational_law.proofs.Rays.{is_ray}
+use Rattle.quad_solve_law.specs.Answer.{IsFalling}
+use Rattle.quad_solve_law.proofs.RegionAnswers.{found_is_point, falling_is_ray}
 use Rattle.branching_law.specs.declared.Turn.{Turn}
 use Rattle.branching_law.specs.Paths.{region_of}
 use Rattle.branching_law.specs.Rounding.{under_rounding}

@@ -15,7 +15,7 @@ use Rattle.program_law.specs.Region.{Region, smaller, larger, left_of, right_of,
 use Rattle.program_law.specs.Point.{IsWithin}
 use Rattle.program_law.specs.Columns.{AllWithin, IsWhole}
 use Rattle.certificate_law.specs.Tree.{is_marked}
-use Rattle.check_law.specs.Tree.{bounds_at}
+use Rattle.cert_check_law.specs.Tree.{bounds_at}
 use Rattle.branching_law.specs.Rounding.{IsFractional}
 use Rattle.branching_law.proofs.Floors.{above_floor, next_whole, whole_below, whole_above}
 use Rattle.branching_law.proofs.Marks.{whole_unless}

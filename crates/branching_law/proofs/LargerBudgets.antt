@@ -9,10 +9,10 @@ use Rattle.program_law.specs.Columns.{value}
 use Rattle.certificate_law.specs.declared.Node.{Node}
 use Rattle.certificate_law.specs.declared.Node.TheVariants.{Branch, Bound, Farkas, Cross}
 use Rattle.certificate_law.specs.declared.Certificate.{Certificate}
-use Rattle.walk_law.specs.Problems.{feasible_problem}
-use Rattle.walk_law.specs.Answer.{Empty, Ray, Best, IsFound}
-use Rattle.walk_law.proofs.SomeAnswer.{more_solved, more_answers}
-use Rattle.form_law.specs.Form.{form_of}
+use Rattle.quad_solve_law.specs.Problems.{feasible_problem}
+use Rattle.quad_solve_law.specs.Answer.{Empty, Ray, Best, IsFound}
+use Rattle.quad_solve_law.proofs.SomeAnswer.{more_solved, more_answers}
+use Rattle.equational_law.specs.Form.{form_of}
 use Rattle.branching_law.specs.declared.Turn.{Turn}
 use Rattle.branching_law.specs.Paths.{region_of}
 use Rattle.branching_law.specs.Nodes.{Search, ForBest, ForPoint, IsTaken}

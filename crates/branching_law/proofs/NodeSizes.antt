@@ -14,10 +14,10 @@ use Rattle.certificate_law.specs.declared.Node.{Node}
 use Rattle.certificate_law.specs.declared.Node.TheVariants.{Branch, Bound, Farkas, Cross}
 use Rattle.certificate_law.specs.Nodes.{AreTrees, IsOneTree}
 use Rattle.certificate_law.specs.Tree.{is_marked}
-use Rattle.check_law.specs.Fits.{FitsNode, HasNoBound}
-use Rattle.form_law.specs.Form.{equations, multipliers_of, firsts, unsigned}
-use Rattle.walk_law.specs.Answer.{IsEmpty, IsBest}
-use Rattle.walk_law.proofs.RegionAnswers.{best_is_point}
+use Rattle.cert_check_law.specs.Fits.{FitsNode, HasNoBound}
+use Rattle.equational_law.specs.Form.{equations, multipliers_of, firsts, unsigned}
+use Rattle.quad_solve_law.specs.Answer.{IsEmpty, IsBest}
+use Rattle.quad_solve_law.proofs.RegionAnswers.{best_is_point}
 use Rattle.branching_law.specs.declared.Cut.{Cut}
 use Rattle.branching_law.specs.declared.Cut.TheVariants.{Below, Above}
 use Rattle.branching_law.specs.declared.Turn.{Turn}

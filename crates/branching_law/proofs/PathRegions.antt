@@ -9,8 +9,8 @@ use Rattle.program_law.specs.Tests.{is_le}
 use Rattle.program_law.proofs.Numbers.{le_tested, lt_tested}
 use Rattle.program_law.specs.Region.{Region, smaller, larger, cut_high, cut_low}
 use Rattle.program_law.specs.Columns.{AllWithin}
-use Rattle.form_law.specs.Solutions.{HasItsBounds}
-use Rattle.walk_law.proofs.RegionRays.{has_itself, cut_high_has, cut_low_has}
+use Rattle.equational_law.specs.Solutions.{HasItsBounds}
+use Rattle.quad_solve_law.proofs.RegionRays.{has_itself, cut_high_has, cut_low_has}
 use Rattle.branching_law.specs.declared.Cut.{Cut}
 use Rattle.branching_law.specs.declared.Cut.TheVariants.{Below, Above}
 use Rattle.branching_law.specs.declared.Turn.{Turn}

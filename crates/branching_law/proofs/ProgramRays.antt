@@ -14,10 +14,10 @@ use Rattle.program_law.specs.declared.Row.{Row}
 use Rattle.program_law.specs.Region.{Region}
 use Rattle.program_law.specs.Program.{Program, bounds, sides}
 use Rattle.certificate_law.specs.Ray.{KeepsSides, AllKeepSides, AreZero, IsRay}
-use Rattle.check_law.specs.Tree.{bounds_at}
-use Rattle.form_law.specs.Solutions.{IsRegionRay, HasItsBounds}
-use Rattle.form_law.proofs.Rays.{fewer_bounds}
-use Rattle.walk_law.proofs.RegionRays.{has_itself}
+use Rattle.cert_check_law.specs.Tree.{bounds_at}
+use Rattle.equational_law.specs.Solutions.{IsRegionRay, HasItsBounds}
+use Rattle.equational_law.proofs.Rays.{fewer_bounds}
+use Rattle.quad_solve_law.proofs.RegionRays.{has_itself}
 use Rattle.branching_law.specs.declared.Cut.{Cut}
 use Rattle.branching_law.specs.declared.Cut.TheVariants.{Below, Above}
 use Rattle.branching_law.specs.declared.Turn.{Turn}

@@ -14,7 +14,7 @@ use Rattle.certificate_law.specs.declared.Node.{Node}
 use Rattle.certificate_law.specs.declared.Node.TheVariants.{Branch, Bound, Farkas, Cross}
 use Rattle.certificate_law.specs.Leaf.{IsGoodBound}
 use Rattle.certificate_law.specs.Tree.{IsGoodFor, AreGood}
-use Rattle.walk_law.proofs.RegionAnswers.{empty_is_good, best_is_good, best_is_point}
+use Rattle.quad_solve_law.proofs.RegionAnswers.{empty_is_good, best_is_good, best_is_point}
 use Rattle.branching_law.specs.declared.Turn.{Turn}
 use Rattle.branching_law.specs.Paths.{region_of, below, above}
 use Rattle.branching_law.specs.Nodes.{Search, ForBest, ForPoint, IsKept, IsBoundLeaf}

@@ -8,7 +8,7 @@ use Rattle.program_law.specs.Program.{Program, marks}
 use Rattle.program_law.specs.Columns.{AreWholeOn, value}
 use Rattle.certificate_law.specs.declared.Node.{Node}
 use Rattle.certificate_law.specs.declared.Node.TheVariants.{Branch, Bound, Farkas, Cross}
-use Rattle.walk_law.specs.Answer.{IsFound, IsEmpty, IsBest}
+use Rattle.quad_solve_law.specs.Answer.{IsFound, IsEmpty, IsBest}
 use Rattle.branching_law.specs.declared.Turn.{Turn}
 use Rattle.branching_law.specs.Paths.{region_of, below, above, IsFirst}
 use Rattle.branching_law.specs.Nodes.{Search, ForBest, ForPoint, IsBranch, IsBelowKept, IsNotBelowKept, IsInnerNode}

@@ -17,15 +17,15 @@ use Rattle.program_law.specs.Columns.{value}
 use Rattle.certificate_law.specs.declared.Node.{Node}
 use Rattle.certificate_law.specs.declared.Node.TheVariants.{Branch, Bound}
 use Rattle.certificate_law.specs.declared.Certificate.TheVariants.{Optimal}
-use Rattle.check_law.specs.Tree.{bounds_at}
-use Rattle.form_law.specs.Form.{Form, form_of, point_of}
-use Rattle.form_law.specs.Solutions.{IsForm, IsSolution}
-use Rattle.face_law.specs.Small.{IsStationary}
-use Rattle.walk_law.specs.Problems.{feasible_problem, ray_problem, price_problem}
-use Rattle.walk_law.specs.Walk.{IsSolvedWithin, IsRefutedWithin, IsPriced}
-use Rattle.walk_law.specs.Answer.{IsBest}
-use Rattle.walk_law.specs.Worked.{n, minus, over}
-use Rattle.walk_law.proofs.Tested.{pivot, solved_by, refuted_by, list_is, form, form_is, solution, symmetric, stationary, priced, IsOneStep, best_by}
+use Rattle.cert_check_law.specs.Tree.{bounds_at}
+use Rattle.equational_law.specs.Form.{Form, form_of, point_of}
+use Rattle.equational_law.specs.Solutions.{IsForm, IsSolution}
+use Rattle.face_descent_law.specs.Small.{IsStationary}
+use Rattle.quad_solve_law.specs.Problems.{feasible_problem, ray_problem, price_problem}
+use Rattle.quad_solve_law.specs.Walk.{IsSolvedWithin, IsRefutedWithin, IsPriced}
+use Rattle.quad_solve_law.specs.Answer.{IsBest}
+use Rattle.quad_solve_law.specs.Worked.{n, minus, over}
+use Rattle.quad_solve_law.proofs.Tested.{pivot, solved_by, refuted_by, list_is, form, form_is, solution, symmetric, stationary, priced, IsOneStep, best_by}
 use Rattle.branching_law.specs.Paths.{region_of, below, above}
 use Rattle.branching_law.specs.Rounding.{IsFractional, HasFractionalBound}
 use Rattle.branching_law.specs.Nodes.{ForBest, IsBranch, IsKept}

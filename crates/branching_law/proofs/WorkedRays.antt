@@ -16,13 +16,13 @@ use Rattle.program_law.specs.Region.{Region, IsCrossedAt, IsCrossedRegion}
 use Rattle.program_law.specs.Program.{Program, bounds}
 use Rattle.certificate_law.specs.declared.Node.TheVariants.{Branch, Farkas}
 use Rattle.certificate_law.specs.declared.Certificate.TheVariants.{Infeasible, Unbounded}
-use Rattle.check_law.specs.Tree.{bounds_at}
-use Rattle.form_law.specs.Form.{Form, form_of, point_of, direction_of, multipliers_of}
-use Rattle.walk_law.specs.Problems.{feasible_problem, ray_problem}
-use Rattle.walk_law.specs.Walk.{IsSolvedWithin, IsRefutedWithin}
-use Rattle.walk_law.specs.Answer.{IsFound, IsFalling, IsEmpty}
-use Rattle.walk_law.specs.Worked.{n, minus, slope}
-use Rattle.walk_law.proofs.Tested.{pivot, solved_by, refuted_by, list_is, form_is, symmetric}
+use Rattle.cert_check_law.specs.Tree.{bounds_at}
+use Rattle.equational_law.specs.Form.{Form, form_of, point_of, direction_of, multipliers_of}
+use Rattle.quad_solve_law.specs.Problems.{feasible_problem, ray_problem}
+use Rattle.quad_solve_law.specs.Walk.{IsSolvedWithin, IsRefutedWithin}
+use Rattle.quad_solve_law.specs.Answer.{IsFound, IsFalling, IsEmpty}
+use Rattle.quad_solve_law.specs.Worked.{n, minus, slope}
+use Rattle.quad_solve_law.proofs.Tested.{pivot, solved_by, refuted_by, list_is, form_is, symmetric}
 use Rattle.branching_law.specs.Paths.{region_of, below, above}
 use Rattle.branching_law.specs.Rounding.{IsMarked, IsMarkedAt, IsFractional, HasFractionalBound}
 use Rattle.branching_law.specs.Nodes.{ForPoint, IsBranch}

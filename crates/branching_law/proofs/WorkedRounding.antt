@@ -15,9 +15,9 @@ use Rattle.program_law.specs.Region.{larger, IsCrossedAt}
 use Rattle.program_law.specs.Program.{bounds}
 use Rattle.certificate_law.specs.declared.Node.TheVariants.{Branch, Cross}
 use Rattle.certificate_law.specs.declared.Certificate.TheVariants.{Infeasible}
-use Rattle.check_law.specs.Tree.{bounds_at}
-use Rattle.walk_law.specs.Worked.{n, over}
-use Rattle.walk_law.proofs.Tested.{symmetric}
+use Rattle.cert_check_law.specs.Tree.{bounds_at}
+use Rattle.quad_solve_law.specs.Worked.{n, over}
+use Rattle.quad_solve_law.proofs.Tested.{symmetric}
 use Rattle.branching_law.specs.Paths.{region_of, above}
 use Rattle.branching_law.specs.Rounding.{IsBroken, IsRoundingTurn, IsRounding}
 use Rattle.branching_law.specs.Nodes.{ForBest}

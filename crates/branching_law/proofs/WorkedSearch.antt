@@ -17,15 +17,15 @@ use Rattle.program_law.specs.Program.{Program, bounds}
 use Rattle.program_law.specs.Columns.{value}
 use Rattle.certificate_law.specs.declared.Node.TheVariants.{Branch, Farkas}
 use Rattle.certificate_law.specs.declared.Certificate.TheVariants.{Infeasible}
-use Rattle.check_law.specs.Tree.{bounds_at}
-use Rattle.form_law.specs.Form.{Form, form_of, point_of, multipliers_of}
-use Rattle.form_law.specs.Solutions.{IsForm}
-use Rattle.face_law.specs.Small.{IsStationary}
-use Rattle.walk_law.specs.Problems.{feasible_problem, ray_problem, price_problem, price_multipliers}
-use Rattle.walk_law.specs.Walk.{IsSolvedWithin, IsRefutedWithin, IsDecidedWithin, Start}
-use Rattle.walk_law.specs.Answer.{IsBest, IsEmpty}
-use Rattle.walk_law.specs.Worked.{n, minus}
-use Rattle.walk_law.proofs.Tested.{pivot, solved_by, refuted_by, list_is, form, form_is, symmetric, stationary}
+use Rattle.cert_check_law.specs.Tree.{bounds_at}
+use Rattle.equational_law.specs.Form.{Form, form_of, point_of, multipliers_of}
+use Rattle.equational_law.specs.Solutions.{IsForm}
+use Rattle.face_descent_law.specs.Small.{IsStationary}
+use Rattle.quad_solve_law.specs.Problems.{feasible_problem, ray_problem, price_problem, price_multipliers}
+use Rattle.quad_solve_law.specs.Walk.{IsSolvedWithin, IsRefutedWithin, IsDecidedWithin, Start}
+use Rattle.quad_solve_law.specs.Answer.{IsBest, IsEmpty}
+use Rattle.quad_solve_law.specs.Worked.{n, minus}
+use Rattle.quad_solve_law.proofs.Tested.{pivot, solved_by, refuted_by, list_is, form, form_is, symmetric, stationary}
 use Rattle.branching_law.specs.Paths.{region_of, below, above}
 use Rattle.branching_law.specs.Rounding.{IsFractional, HasFractionalBound}
 use Rattle.branching_law.specs.Nodes.{ForBest, IsBranch}

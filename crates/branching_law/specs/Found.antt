@@ -11,7 +11,7 @@ use Rattle.certificate_law.specs.Squares.{AreSquaresOf}
 use Rattle.certificate_law.specs.declared.Node.{Node}
 use Rattle.certificate_law.specs.declared.Certificate.{Certificate}
 use Rattle.certificate_law.specs.declared.Certificate.TheVariants.{Optimal, Infeasible, Unbounded, NotConvex}
-use Rattle.walk_law.specs.Answer.{IsFound, IsFalling}
+use Rattle.quad_solve_law.specs.Answer.{IsFound, IsFalling}
 use Rattle.branching_law.specs.declared.Turn.{Turn}
 use Rattle.branching_law.specs.Paths.{region_of}
 use Rattle.branching_law.specs.Rounding.{IsMarked, under_rounding}

@@ -9,7 +9,7 @@ use Rattle.program_law.specs.Program.{Program, marks}
 use Rattle.program_law.specs.Columns.{IsWhole, AreWholeOn, value}
 use Rattle.certificate_law.specs.declared.Node.{Node}
 use Rattle.certificate_law.specs.declared.Node.TheVariants.{Branch, Bound, Farkas, Cross}
-use Rattle.walk_law.specs.Answer.{IsFound, IsEmpty, IsBest}
+use Rattle.quad_solve_law.specs.Answer.{IsFound, IsEmpty, IsBest}
 use Rattle.branching_law.specs.Paths.{IsFirst}
 use Rattle.branching_law.specs.Rounding.{IsMarkedAt}
 

@@ -1,16 +1,16 @@
 -- The paths and the sites that a search reaches.
-use Rattle.std.specs.Prelude.{ℕ, List, [], ◌∷◌}
+use Rattle.std.specs.Prelude.{ℕ, ◌≤◌, List, [], ◌∷◌}
 use Rattle.frac_core.specs.Parts.{max_part}
 use Rattle.frac_core.specs.Operations.{IsPast}
 use Rattle.frac_core.specs.declared.fractions.Refused.{Refused}
 use Rattle.program_law.specs.Region.{IsCrossedRegion}
 use Rattle.program_law.specs.Program.{Program}
 use Rattle.certificate_law.specs.declared.Node.{Node}
-use Rattle.walk_law.specs.Sites.{Site, AtForm, AtFeasible, AtRay, AtFace, AtPrice, IsReached, IsOperationAt, IsSpentAt}
+use Rattle.quad_solve_law.specs.Sites.{Site, AtForm, AtFeasible, AtRay, AtFace, AtPrice, IsReached, IsOperationAt, IsSpentAt, IsFirstSpent}
 use Rattle.branching_law.specs.declared.Turn.{Turn}
 use Rattle.branching_law.specs.Paths.{region_of}
 use Rattle.branching_law.specs.Nodes.{Search, ForBest, ForPoint}
-use Rattle.branching_law.specs.Search.{IsEarned}
+use Rattle.branching_law.specs.Search.{IsEarned, branches}
 
 -- the sites of feasibility alone
 abbrev pub IsFeasibilitySite : Site → Type 0
@@ -46,6 +46,13 @@ pub record IsReachedSite (p : Program) (bases : ℕ) (path : List Turn) (site : 
 pub record IsSpentSite (p : Program) (bases : ℕ) (path : List Turn) (site : Site) : Type 0 where
   pub reached : IsReachedSite p bases path site
   pub spent : IsSpentAt p (region_of p path) bases site
+
+-- the first site at which the budget of strict steps is used up: what comes before it in its region ends within the budget, and the tree that
+-- comes to its path has at most so many branches
+pub record IsFirstSpentSite (p : Program) (bases boxes : ℕ) (path : List Turn) (site : Site) : Type 0 where
+  pub reached : IsReachedSite p bases path site
+  pub first : IsFirstSpent p (region_of p path) bases site
+  pub few : branches reached.comes.nodes ≤ boxes
 
 -- an operation that is past belongs to a reached site
 pub record IsPastSite (p : Program) (bases : ℕ) (path : List Turn) (site : Site) (r : Refused) : Type 0 where

@@ -10,7 +10,7 @@ use Rattle.program_law.specs.Columns.{IsWhole}
 use Rattle.certificate_law.specs.Tree.{is_marked}
 use Rattle.certificate_law.specs.declared.Node.{Node}
 use Rattle.certificate_law.specs.declared.Node.TheVariants.{Branch, Cross}
-use Rattle.check_law.specs.Tree.{bounds_at}
+use Rattle.cert_check_law.specs.Tree.{bounds_at}
 use Rattle.branching_law.specs.declared.Cut.{Cut}
 use Rattle.branching_law.specs.declared.Cut.TheVariants.{Below, Above}
 use Rattle.branching_law.specs.declared.Turn.{Turn}

@@ -6,7 +6,7 @@ use Rattle.program_law.specs.Region.{Region, IsCrossedRegion}
 use Rattle.program_law.specs.Program.{Program}
 use Rattle.certificate_law.specs.declared.Node.{Node}
 use Rattle.certificate_law.specs.declared.Node.TheVariants.{Branch, Bound, Farkas, Cross}
-use Rattle.walk_law.specs.Answer.{IsFalling}
+use Rattle.quad_solve_law.specs.Answer.{IsFalling}
 use Rattle.branching_law.specs.declared.Turn.{Turn}
 use Rattle.branching_law.specs.Paths.{region_of, below, above}
 use Rattle.branching_law.specs.Rounding.{IsMarked, IsRounding}

@@ -7,7 +7,7 @@ use Rattle.program_law.specs.Program.{Program}
 use Rattle.program_law.specs.Point.{IsWithin}
 use Rattle.certificate_law.specs.declared.Node.{Node}
 use Rattle.certificate_law.specs.declared.Node.TheVariants.{Branch, Bound, Farkas, Cross}
-use Rattle.check_law.specs.Tree.{bounds_at}
+use Rattle.cert_check_law.specs.Tree.{bounds_at}
 use Rattle.branching_law.specs.declared.Turn.{Turn}
 use Rattle.branching_law.specs.Paths.{below, above}
 use Rattle.branching_law.specs.Rounding.{IsMarkedAt}

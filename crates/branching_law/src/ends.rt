@@ -1,19 +1,19 @@
 //! That a search comes to an end, and to one certificate only.
 
-ghost use Rattle.std.specs.Prelude.{◌≡◌, ◌≤◌, ◌+◌, ◌^◌, ℕ, List, Option, length};
+ghost use Rattle.std.specs.Prelude.{◌≡◌, ◌⊎◌, ◌↔◌, ◌≤◌, ◌+◌, ◌^◌, ℕ, List, Option, length};
 ghost use Rattle.rational.specs.Rational.{ℚ};
 ghost use Rattle.program_law.specs.declared.Square.{Square};
 ghost use Rattle.program_law.specs.Region.{IsCrossedRegion};
 ghost use Rattle.program_law.specs.Program.{Program, IsProgram, bounds, marks};
 ghost use Rattle.certificate_law.specs.declared.Certificate.{Certificate};
 ghost use Rattle.certificate_law.specs.Squares.{AreSquaresOf};
-ghost use Rattle.form_law.specs.Form.{width, form_of};
-ghost use Rattle.walk_law.specs.Sites.{Site};
+ghost use Rattle.equational_law.specs.Form.{width, form_of};
+ghost use Rattle.quad_solve_law.specs.Sites.{Site};
 ghost use Rattle.branching_law.specs.declared.Turn.{Turn};
 ghost use Rattle.branching_law.specs.Paths.{region_of};
 ghost use Rattle.branching_law.specs.Rounding.{IsMarked, IsRounding};
 ghost use Rattle.branching_law.specs.Found.{Convex, Reduced, IsReductionOf, IsIncumbent, IsFoundOf};
-ghost use Rattle.branching_law.specs.Reached.{IsReachedPath, IsSpentSite};
+ghost use Rattle.branching_law.specs.Reached.{IsReachedPath, IsSpentSite, IsFirstSpentSite};
 ghost use Rattle.branching_law.specs.Search.{IsSpentTree};
 ghost use Rattle.branching_law.specs.Wholes.{AreBounded, choices};
 
@@ -39,6 +39,22 @@ pub fn large_budgets_are_never_used_up()
     ensures boxes { (p : Program) (bases boxes : ℕ) → IsProgram p → IsSpentTree p bases boxes →
         ((turns : List Turn) → IsRounding p turns → (IsCrossedRegion (region_of p turns) → ⊥) → IsMarked p →
         AreBounded p (bounds p) × (choices (marks p) (bounds p) ≤ boxes)) → ⊥ }
+{}
+
+/// Where squares sum to Q, a search ends in one way, within its budgets: a certificate is found; or the budget of strict steps is used
+/// up first at one site of one path; or there is an earned tree with a branch too many. So a certificate is found exactly where neither
+/// budget is used up.
+pub fn searches_end_in_one_way()
+    ensures some { (p : Program) (squares : List Square) (bases boxes : ℕ) → IsProgram p → AreSquaresOf p.pairs squares →
+        ((c : Certificate) × IsFoundOf p (Convex squares) bases boxes c)
+        ⊎ ((path : List Turn) × (site : Site) × IsFirstSpentSite p bases boxes path site) ⊎ IsSpentTree p bases boxes }
+    ensures site { (p : Program) (bases boxes : ℕ) (path other : List Turn) (site place : Site) → IsProgram p →
+        IsFirstSpentSite p bases boxes path site → IsFirstSpentSite p bases boxes other place → (path ≡ other) × (site ≡ place) }
+    ensures not_both { (p : Program) (bases boxes : ℕ) (path : List Turn) (site : Site) → IsProgram p →
+        IsFirstSpentSite p bases boxes path site → IsSpentTree p bases boxes → ⊥ }
+    ensures found { (p : Program) (squares : List Square) (bases boxes : ℕ) → IsProgram p → AreSquaresOf p.pairs squares →
+        ((c : Certificate) × IsFoundOf p (Convex squares) bases boxes c)
+        ↔ (((path : List Turn) (site : Site) → ¬ (IsFirstSpentSite p bases boxes path site)) × (¬ (IsSpentTree p bases boxes))) }
 {}
 
 /// Only one certificate is found of a program, whatever the budgets: its rounding, its tree, its incumbent, its point and its ray

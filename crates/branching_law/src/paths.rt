@@ -4,7 +4,7 @@ ghost use Rattle.std.specs.Prelude.{◌≡◌, List, [], ◌∷◌, ◌++◌, le
 ghost use Rattle.rational.specs.Rational.{ℚ};
 ghost use Rattle.program_law.specs.Region.{Region};
 ghost use Rattle.program_law.specs.Columns.{AllWithin};
-ghost use Rattle.form_law.specs.Solutions.{HasItsBounds};
+ghost use Rattle.equational_law.specs.Solutions.{HasItsBounds};
 ghost use Rattle.branching_law.specs.declared.Turn.{Turn};
 ghost use Rattle.branching_law.specs.Paths.{behind, region_behind};
 

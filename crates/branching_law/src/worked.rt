@@ -3,7 +3,7 @@
 ghost use Rattle.std.specs.Prelude.{ℕ, pos, [], ◌∷◌};
 ghost use Rattle.certificate_law.specs.declared.Node.TheVariants.{Branch, Bound, Farkas, Cross};
 ghost use Rattle.certificate_law.specs.declared.Certificate.TheVariants.{Optimal, Infeasible, Unbounded};
-ghost use Rattle.walk_law.specs.Worked.{n, minus, over, slope};
+ghost use Rattle.quad_solve_law.specs.Worked.{n, minus, over, slope};
 ghost use Rattle.branching_law.specs.Paths.{above};
 ghost use Rattle.branching_law.specs.Rounding.{IsRounding};
 ghost use Rattle.branching_law.specs.Found.{Convex, IsFoundOf};

@@ -1,17 +1,16 @@
 -- What is accepted is good and true.
 use Rattle.std.specs.Prelude.{◌≡◌, Result, Ok, Err}
-use Rattle.std.proofs.Common.{refl, ap}
+use Rattle.std.proofs.Common.{refl}
 use Rattle.program_law.specs.Program.{Program, IsProgram}
 use Rattle.program_law.specs.Verdict.{IsTrueOf}
 use Rattle.certificate_law.specs.declared.Certificate.{Certificate}
 use Rattle.certificate_law.specs.Good.{IsGood, verdict_of}
-use Rattle.check_law.specs.declared.Event.{Event}
-use Rattle.check_law.specs.declared.Event.TheVariants.{Past, Failed}
-use Rattle.check_law.specs.declared.Checked.{Checked}
-use Rattle.check_law.specs.declared.Checked.TheVariants.{Accepted}
-use Rattle.check_law.specs.Check.{checked, answer}
-use Rattle.check_law.specs.Fits.{Fits}
-use Rattle.check_law.proofs.Checks.{no_event_is_good, no_event_is_true}
+use Rattle.cert_check_law.specs.declared.Event.{Event}
+use Rattle.cert_check_law.specs.declared.Event.TheVariants.{Past, Failed}
+use Rattle.cert_check_law.specs.declared.Checked.TheVariants.{Accepted}
+use Rattle.cert_check_law.specs.Check.{checked, answer}
+use Rattle.cert_check_law.specs.Fits.{Fits}
+use Rattle.cert_check_law.proofs.Checks.{no_event_is_good, no_event_is_true}
 
 no_event : (r : Result (Unit {0}) Event) → answer r ≡ Accepted → r ≡ Ok tt
 no_event (Ok x) e = refl

@@ -1,3 +1,2 @@
-pub mod Products
 pub mod Walk
-pub mod Room
+pub mod Gradients

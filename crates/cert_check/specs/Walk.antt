@@ -1,11 +1,16 @@
--- The regions that wait, told by the region at hand and the bounds that were cut on the way to it, the newest first.
-use Rattle.std.specs.Prelude.{◌≡◌, ℕ, zero, suc, ◌<◌, List, [], ◌∷◌, Option, Some, None, Bool, true, false, Result, Ok, Err, slice_set}
+-- The walk over a tree: the region at hand, and those that wait, told by the cuts on the way to it, the newest first. A cut notes
+-- what the low bound is to be cut to in the right half, where that still waits.
+use Rattle.std.specs.Prelude.{◌≡◌, ℕ, suc, ◌≤◌, List, [], ◌∷◌, Option, Some, None, Bool, true, false, Result, Ok, Err}
 use Rattle.rational.specs.Rational.{ℚ}
+use Rattle.program_law.specs.Program.{Program, bounds}
 use Rattle.program_law.specs.Region.{Region, cut_low}
+use Rattle.program_model.specs.declared.descents.Cut.{Cut}
+use Rattle.program_model.specs.Descents.{Descended}
 use Rattle.certificate_law.specs.declared.Node.{Node}
 use Rattle.certificate_law.specs.declared.Node.TheVariants.{Branch, Bound, Farkas, Cross}
-use Rattle.check_law.specs.declared.Event.{Event}
-use Rattle.cert_check.specs.declared.cuts.Cut.{Cut}
+use Rattle.certificate_law.specs.declared.Certificate.{Certificate}
+use Rattle.certificate_law.specs.declared.Certificate.TheVariants.{Optimal, Infeasible, Unbounded, NotConvex}
+use Rattle.cert_check_law.specs.declared.Event.{Event}
 
 -- the right half of a region before the others, where it still waits
 abbrev pub with_right : Option ℚ → ℕ → Region → List Region → List Region
@@ -13,25 +18,19 @@ with_right None j before rest = rest
 with_right (Some above) j before rest = cut_low before j above ∷ rest
 
 -- each cut gives back the region before it, whose right half waits or doesn't
-abbrev pub waiting_of : Region → List Cut → List Region
-waiting_of region [] = []
-waiting_of region (c ∷ cs) =
-    with_right c.right c.column (slice_set region c.column c.before) (waiting_of (slice_set region c.column c.before) cs)
+abbrev pub waiting_of : List (Cut (Option ℚ) × Region) → List Region
+waiting_of [] = []
+waiting_of (c ∷ cs) = with_right c.0.note c.0.column c.1 (waiting_of cs)
 
 -- the regions that wait, the one at hand first; none where nothing is at hand
-abbrev pub at_hand : Bool → Region → List Cut → List Region
-at_hand false region cuts = []
-at_hand true region cuts = region ∷ waiting_of region cuts
-
--- the cuts' columns are among so many
-abbrev pub AreWithin : ℕ → List Cut → Type 0
-AreWithin n [] = Unit {0}
-AreWithin n (c ∷ cs) = (c.column < n) × AreWithin n cs
+abbrev pub at_hand : Bool → Descended (Option ℚ) → List Region
+at_hand false walk = []
+at_hand true walk = walk.region ∷ waiting_of walk.before
 
 -- a step leaves these regions, or ends with the call's event
-abbrev pub StepLeaves : Result Bool Event → Region → List Cut → Result (List Region) Event → Type 0
-StepLeaves (Ok more) region cuts step = step ≡ Ok (at_hand more region cuts)
-StepLeaves (Err e) region cuts step = step ≡ Err e
+abbrev pub StepLeaves : Result Bool Event → Descended (Option ℚ) → Result (List Region) Event → Type 0
+StepLeaves (Ok more) walk step = step ≡ Ok (at_hand more walk)
+StepLeaves (Err e) walk step = step ≡ Err e
 
 -- how many branches there are
 abbrev pub branches : List Node → ℕ
@@ -40,3 +39,16 @@ branches (Branch j k ∷ ns) = suc (branches ns)
 branches (Bound w y ∷ ns) = branches ns
 branches (Farkas y ∷ ns) = branches ns
 branches (Cross j ∷ ns) = branches ns
+
+-- how many branches a certificate's tree has; 0 where it has no tree
+abbrev pub branches_of : Certificate → ℕ
+branches_of (Optimal x v squares tree) = branches tree
+branches_of (Infeasible tree) = branches tree
+branches_of (Unbounded x d squares) = 0
+branches_of (NotConvex v) = 0
+
+-- a walk begins: the program's bounds, no cuts, and room for so many
+pub record IsStart (p : Program) (count : ℕ) (walk : Descended (Option ℚ)) : Type 0 where
+  pub region : walk.region ≡ bounds p
+  pub before : walk.before ≡ []
+  pub room : count ≤ walk.room

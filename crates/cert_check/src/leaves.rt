@@ -1,22 +1,20 @@
 // The tests of a leaf.
 
-ghost use Rattle.std.specs.Prelude.{◌≡◌, ◌<◌, ◌≤◌, length};
+ghost use Rattle.std.specs.Prelude.{◌≡◌, ◌<◌, length, IfSome};
 ghost use Rattle.rational.specs.Rational.{zero_ℚ};
 ghost use Rattle.program_law.specs.Program.{sides};
-ghost use Rattle.program_law.specs.Vectors.{at, row_at, column};
-ghost use Rattle.check_law.specs.Dot.{with_product, dot_of};
-ghost use Rattle.check_law.specs.Leaf.{with_rows, with_column, with_columns, no_gradient_at, gradient_at, reaches, leaf_sum, farkas_test, bound_test};
+ghost use Rattle.program_law.specs.Vectors.{column};
+ghost use Rattle.cert_check_law.specs.Dot.{dot_of};
+ghost use Rattle.cert_check_law.specs.Leaf.{with_rows, with_column, with_columns, reaches, leaf_sum, farkas_test, bound_test};
+ghost use Rattle.cert_check.specs.Gradients.{gradient_of};
 
-use crate::reading::{column_count, row_count, sides_of};
-use crate::values::half_form;
-use check_law::Event;
+use cert_check_law::Event;
 use check_steps::{
-    at_most, difference, dot_with, entry, is_positive, is_zero, product_added, side_added, sum,
-    tested,
+    at_most, difference, dot_with, entry, is_positive, product_added, side_added, sum, tested,
 };
 use frac_core::{Frac, Vector};
 use program_law::Row;
-use program_model::Program;
+use program_model::{Program, Region, half_form};
 
 // The sum, from 0, of each row's multiplier times its side.
 fn rows_added(p: &Program, node: u32, y: &Vector<Frac>) -> Result<Frac, Event>
@@ -24,171 +22,109 @@ fn rows_added(p: &Program, node: u32, y: &Vector<Frac>) -> Result<Frac, Event>
     ensures { result ≡ with_rows node zero_ℚ y.now (sides p.now) }
 {
     let mut sum = Frac::whole(0);
-    for i in 0..row_count(p) {
-        sum = side_added(node, sum, entry(y, i as usize), sides_of(p, i))?;
+    for i in 0..p.rows() {
+        sum = side_added(node, sum, entry(y, i as usize), p.row(i))?;
     }
     Ok(sum)
 }
 
-// The sum with an entry of A times its row's multiplier. A multiplier 0 costs nothing more.
-#[tactic(auto, using(crate::proofs::Skipped::skipped, crate::proofs::Places::again))]
-fn term_added(p: &Program, i: u32, j: usize, total: Frac, multiplier: Frac) -> Result<Frac, Event>
-    requires row { i < length p.now.rows }
-    requires place { j < length p.now.columns }
-    ensures { result ≡ with_product total (at (row_at p.now.entries i) j) multiplier }
-{
-    if is_zero(multiplier) {
-        return Ok(total);
-    }
-    let row = p.entries_of(i);
-    product_added(total, row[j], multiplier)
-}
-
 // A column of A times the rows' multipliers.
-#[tactic(auto, using(crate::proofs::Skipped::column_step))]
-fn column_dot(p: &Program, j: usize, y: &Vector<Frac>) -> Result<Frac, Event>
+#[tactic(auto, using(crate::proofs::ColumnLemmas::column_step))]
+fn column_dot(p: &Program, j: u32, y: &Vector<Frac>) -> Result<Frac, Event>
     requires rows { length y.now ≡ length p.now.rows }
     requires place { j < length p.now.columns }
     ensures { result ≡ dot_of (column p.now.entries j) y.now }
 {
     let mut total = Frac::whole(0);
-    for i in 0..row_count(p) {
-        total = term_added(p, i, j, total, entry(y, i as usize))?;
+    for i in 0..p.rows() {
+        total = product_added(total, p.entry(i, j), entry(y, i as usize))?;
     }
     Ok(total)
 }
 
-// The sum with a column's residual times its bound, where there is no gradient.
-#[tactic(auto, unfolding(check_law::specs::Leaf::with_column))]
-fn farkas_column_added(
-    p: &Program,
-    node: u32,
-    y: &Vector<Frac>,
-    j: usize,
-    total: Frac,
-    bounds: Row,
-) -> Result<Frac, Event>
-    requires rows { length y.now ≡ length p.now.rows }
+// The gradient at a column: that at the leaf's point, or 0 where it has none.
+#[tactic(auto, unfolding(cert_check_law::specs::Leaf::gradient_at))]
+fn gradient(p: &Program, w: Option<&Vector<Frac>>, j: u32) -> Result<Frac, Event>
+    requires width { IfSome w (λ w. length w.now ≡ length p.now.columns) }
     requires place { j < length p.now.columns }
-    ensures { result ≡ with_column node no_gradient_at p.now.entries y.now j total bounds }
+    ensures { result ≡ gradient_of p.now w.entry j }
 {
-    let product = column_dot(p, j, y)?;
-    let residual = difference(Frac::whole(0), product)?;
-    side_added(node, total, residual, bounds)
-}
-
-// The sum with all columns, where there is no gradient.
-fn farkas_columns_added(
-    p: &Program,
-    node: u32,
-    region: &[Row],
-    y: &Vector<Frac>,
-    total: Frac,
-) -> Result<Frac, Event>
-    requires rows { length y.now ≡ length p.now.rows }
-    requires region { length region.now ≡ length p.now.columns }
-    ensures { result ≡ with_columns node no_gradient_at p.now.entries y.now 0 total region.now }
-{
-    let mut sum = total;
-    for j in 0..region.len() {
-        sum = farkas_column_added(p, node, y, j, sum, region[j])?;
-    }
-    Ok(sum)
-}
-
-#[tactic(auto, unfolding(check_law::specs::Leaf::leaf_sum))]
-fn farkas_sum(p: &Program, node: u32, region: &[Row], y: &Vector<Frac>) -> Result<Frac, Event>
-    requires rows { length y.now ≡ length p.now.rows }
-    requires region { length region.now ≡ length p.now.columns }
-    ensures { result ≡ leaf_sum p.now node no_gradient_at region.now y.now }
-{
-    let rows = rows_added(p, node, y)?;
-    farkas_columns_added(p, node, region, y, rows)
-}
-
-/// The test of a FARKAS leaf.
-#[tactic(auto, unfolding(check_law::specs::Leaf::farkas_test))]
-pub fn farkas_tested(p: &Program, node: u32, region: &[Row], y: &Vector<Frac>) -> Result<(), Event>
-    requires rows { length y.now ≡ length p.now.rows }
-    requires region { length region.now ≡ length p.now.columns }
-    ensures { result ≡ farkas_test p.now node region.now y.now }
-{
-    let sum = farkas_sum(p, node, region, y)?;
-    tested(is_positive(sum), 9, node)
-}
-
-// The gradient at a point, at a column.
-#[tactic(auto, unfolding(check_law::specs::Leaf::gradient_at), using(crate::proofs::Places::again))]
-fn gradient(p: &Program, w: &Vector<Frac>, j: u32) -> Result<Frac, Event>
-    requires width { length w.now ≡ length p.now.columns }
-    requires place { j < length p.now.columns }
-    ensures { result ≡ gradient_at p.now.pairs p.now.costs w.now j }
-{
+    let Some(w) = w else {
+        return Ok(Frac::whole(0));
+    };
     let product = dot_with(p.pairs_of(j), w)?;
-    sum(product, p.costs()[j as usize])
+    sum(product, p.cost(j))
 }
 
 // The sum with a column's residual times its bound.
-#[tactic(auto, unfolding(check_law::specs::Leaf::with_column))]
-fn bound_column_added(
+#[tactic(auto, unfolding(cert_check_law::specs::Leaf::with_column))]
+fn column_added(
     p: &Program,
     node: u32,
-    w: &Vector<Frac>,
+    w: Option<&Vector<Frac>>,
     y: &Vector<Frac>,
-    j: usize,
+    j: u32,
     total: Frac,
     bounds: Row,
 ) -> Result<Frac, Event>
     requires rows { length y.now ≡ length p.now.rows }
-    requires width { length w.now ≡ length p.now.columns }
-    requires few { length p.now.columns ≤ 128 }
+    requires width { IfSome w (λ w. length w.now ≡ length p.now.columns) }
     requires place { j < length p.now.columns }
-    ensures { result ≡ with_column node (gradient_at p.now.pairs p.now.costs w.now) p.now.entries y.now j total bounds }
+    ensures { result ≡ with_column node (gradient_of p.now w.entry) p.now.entries y.now j total bounds }
 {
-    let gradient = gradient(p, w, j as u32)?;
+    let gradient = gradient(p, w, j)?;
     let product = column_dot(p, j, y)?;
     let residual = difference(gradient, product)?;
     side_added(node, total, residual, bounds)
 }
 
 // The sum with all columns.
-fn bound_columns_added(
+fn columns_added(
     p: &Program,
     node: u32,
-    region: &[Row],
-    w: &Vector<Frac>,
+    region: &Region,
+    w: Option<&Vector<Frac>>,
     y: &Vector<Frac>,
     total: Frac,
 ) -> Result<Frac, Event>
     requires rows { length y.now ≡ length p.now.rows }
-    requires width { length w.now ≡ length p.now.columns }
-    requires few { length p.now.columns ≤ 128 }
+    requires width { IfSome w (λ w. length w.now ≡ length p.now.columns) }
     requires region { length region.now ≡ length p.now.columns }
-    ensures { result ≡ with_columns node (gradient_at p.now.pairs p.now.costs w.now) p.now.entries y.now 0 total region.now }
+    ensures { result ≡ with_columns node (gradient_of p.now w.entry) p.now.entries y.now 0 total region.now }
 {
     let mut sum = total;
-    for j in 0..region.len() {
-        sum = bound_column_added(p, node, w, y, j, sum, region[j])?;
+    for j in 0..p.columns() {
+        sum = column_added(p, node, w, y, j, sum, region.at(j))?;
     }
     Ok(sum)
 }
 
-#[tactic(auto, unfolding(check_law::specs::Leaf::leaf_sum))]
-fn bound_sum(
+#[tactic(auto, unfolding(cert_check_law::specs::Leaf::leaf_sum))]
+fn leaf_sum(
     p: &Program,
     node: u32,
-    region: &[Row],
-    w: &Vector<Frac>,
+    region: &Region,
+    w: Option<&Vector<Frac>>,
     y: &Vector<Frac>,
 ) -> Result<Frac, Event>
     requires rows { length y.now ≡ length p.now.rows }
-    requires width { length w.now ≡ length p.now.columns }
+    requires width { IfSome w (λ w. length w.now ≡ length p.now.columns) }
     requires region { length region.now ≡ length p.now.columns }
-    ensures { result ≡ leaf_sum p.now node (gradient_at p.now.pairs p.now.costs w.now) region.now y.now }
+    ensures { result ≡ leaf_sum p.now node (gradient_of p.now w.entry) region.now y.now }
 {
-    let _columns = column_count(p);
     let rows = rows_added(p, node, y)?;
-    bound_columns_added(p, node, region, w, y, rows)
+    columns_added(p, node, region, w, y, rows)
+}
+
+/// The test of a FARKAS leaf.
+#[tactic(auto, unfolding(cert_check_law::specs::Leaf::farkas_test))]
+pub fn farkas_tested(p: &Program, node: u32, region: &Region, y: &Vector<Frac>) -> Result<(), Event>
+    requires rows { length y.now ≡ length p.now.rows }
+    requires region { length region.now ≡ length p.now.columns }
+    ensures { result ≡ farkas_test p.now node region.now y.now }
+{
+    let sum = leaf_sum(p, node, region, None, y)?;
+    tested(is_positive(sum), 9, node)
 }
 
 // Whether a number is at least the value. Where there is no value none is.
@@ -201,25 +137,23 @@ fn reaches(v: &Option<Frac>, low: Frac) -> bool
     }
 }
 
-/// The test of a BOUND leaf. `products` is room for a number for each column.
-#[tactic(auto, unfolding(check_law::specs::Leaf::bound_test))]
+/// The test of a BOUND leaf.
+#[tactic(auto, unfolding(cert_check_law::specs::Leaf::bound_test))]
 pub fn bound_tested(
     p: &Program,
     v: &Option<Frac>,
     node: u32,
-    region: &[Row],
+    region: &Region,
     w: &Vector<Frac>,
     y: &Vector<Frac>,
-    products: &mut [Frac],
 ) -> Result<(), Event>
     requires rows { length y.now ≡ length p.now.rows }
     requires width { length w.now ≡ length p.now.columns }
     requires region { length region.now ≡ length p.now.columns }
-    requires room { length products.old ≡ length p.now.columns }
     ensures { result ≡ bound_test p.now v.now node region.now w.now y.now }
 {
-    let sides = bound_sum(p, node, region, w, y)?;
-    let half = half_form(p, w, products)?;
+    let sides = leaf_sum(p, node, region, Some(w), y)?;
+    let half = half_form(p, w)?;
     let rest = difference(p.constant(), half)?;
     let low = sum(rest, sides)?;
     tested(reaches(v, low), 8, node)

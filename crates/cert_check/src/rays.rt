@@ -2,10 +2,9 @@
 
 ghost use Rattle.std.specs.Prelude.{◌≡◌, length};
 ghost use Rattle.program_law.specs.Program.{sides, bounds};
-ghost use Rattle.check_law.specs.Ray.{keeps_sides, row_keeps, rows_keep, columns_keep, row_flat, rows_flat, ray_test};
+ghost use Rattle.cert_check_law.specs.Ray.{keeps_sides, row_keeps, rows_keep, columns_keep, row_flat, rows_flat, ray_test};
 
-use crate::reading::{bounds_of, column_count, entries_of, pairs_of, row_count, sides_of};
-use check_law::Event;
+use cert_check_law::Event;
 use check_steps::{dot_with, entry, is_negative, is_positive, is_zero, tested};
 use frac_core::{Frac, Vector};
 use program_law::Row;
@@ -19,7 +18,7 @@ fn keeps_sides(sides: Row, d: Frac) -> bool
 }
 
 // A row's sum along the ray keeps its sides.
-#[tactic(auto, unfolding(check_law::specs::Ray::row_keeps))]
+#[tactic(auto, unfolding(cert_check_law::specs::Ray::row_keeps))]
 fn row_keeps(place: u32, sides: Row, row: &[Frac], d: &Vector<Frac>) -> Result<(), Event>
     requires { length row.now ≡ length d.now }
     ensures { result ≡ row_keeps place sides row.now d.now }
@@ -33,8 +32,8 @@ fn rows_keep(p: &Program, d: &Vector<Frac>) -> Result<(), Event>
     requires { length d.now ≡ length p.now.columns }
     ensures { result ≡ rows_keep 1 (sides p.now) p.now.entries d.now }
 {
-    for i in 0..row_count(p) {
-        row_keeps(i + 1, sides_of(p, i), entries_of(p, i), d)?;
+    for i in 0..p.rows() {
+        row_keeps(i + 1, p.row(i), p.entries_of(i), d)?;
     }
     Ok(())
 }
@@ -44,18 +43,14 @@ fn columns_keep(p: &Program, d: &Vector<Frac>) -> Result<(), Event>
     requires { length d.now ≡ length p.now.columns }
     ensures { result ≡ columns_keep 1 (bounds p.now) d.now }
 {
-    for j in 0..column_count(p) {
-        tested(
-            keeps_sides(bounds_of(p, j), entry(d, j as usize)),
-            12,
-            j + 1,
-        )?;
+    for j in 0..p.columns() {
+        tested(keeps_sides(p.bounds(j), entry(d, j as usize)), 12, j + 1)?;
     }
     Ok(())
 }
 
 // A row of the form along the ray is 0.
-#[tactic(auto, unfolding(check_law::specs::Ray::row_flat))]
+#[tactic(auto, unfolding(cert_check_law::specs::Ray::row_flat))]
 fn row_flat(place: u32, row: &[Frac], d: &Vector<Frac>) -> Result<(), Event>
     requires { length row.now ≡ length d.now }
     ensures { result ≡ row_flat place row.now d.now }
@@ -69,14 +64,14 @@ fn rows_flat(p: &Program, d: &Vector<Frac>) -> Result<(), Event>
     requires { length d.now ≡ length p.now.columns }
     ensures { result ≡ rows_flat 1 p.now.pairs d.now }
 {
-    for j in 0..column_count(p) {
-        row_flat(j + 1, pairs_of(p, j), d)?;
+    for j in 0..p.columns() {
+        row_flat(j + 1, p.pairs_of(j), d)?;
     }
     Ok(())
 }
 
 /// The tests of a ray.
-#[tactic(auto, unfolding(check_law::specs::Ray::ray_test))]
+#[tactic(auto, unfolding(cert_check_law::specs::Ray::ray_test))]
 pub fn ray_tested(p: &Program, d: &Vector<Frac>) -> Result<(), Event>
     requires { length d.now ≡ length p.now.columns }
     ensures { result ≡ ray_test p.now d.now }

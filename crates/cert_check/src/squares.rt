@@ -3,17 +3,16 @@
 ghost use Rattle.std.specs.Prelude.{◌≡◌, ◌<◌, ◌-◌, length, slice_index_or, All};
 ghost use Rattle.rational.specs.Rational.{zero_ℚ};
 ghost use Rattle.program_law.specs.Vectors.{at};
-ghost use Rattle.check_law.specs.Squares.{with_square, squares_from, pair_test, pairs_in_row, pairs_from, squares_test};
+ghost use Rattle.cert_check_law.specs.Squares.{with_square, squares_from, pair_test, pairs_in_row, pairs_from, squares_test};
 
-use crate::reading::column_count;
-use check_law::Event;
+use cert_check_law::Event;
 use check_steps::{entry, is_zero, product, same, sum, tested};
 use frac_core::Frac;
 use program_law::{Square, Squares};
 use program_model::Program;
 
-/// The square at a place.
-pub fn square_of(squares: &Squares, m: usize) -> &Square
+// The square at a place.
+fn square_of(squares: &Squares, m: usize) -> &Square
     requires { m < length squares.now }
     ensures { result.now ≡ slice_index_or squares.now m result.now }
 {
@@ -21,7 +20,7 @@ pub fn square_of(squares: &Squares, m: usize) -> &Square
 }
 
 // The sum with a square's product of two entries. An entry 0 makes no operation.
-#[tactic(auto, unfolding(check_law::specs::Squares::with_square))]
+#[tactic(auto, unfolding(cert_check_law::specs::Squares::with_square))]
 fn product_added(total: Frac, weight: Frac, a: Frac, b: Frac) -> Result<Frac, Event>
     ensures { result ≡ with_square total weight a b }
 {
@@ -34,7 +33,6 @@ fn product_added(total: Frac, weight: Frac, a: Frac, b: Frac) -> Result<Frac, Ev
 }
 
 // The sum with a square's product at two places.
-#[tactic(auto, using(crate::proofs::Places::again))]
 fn square_added(total: Frac, square: &Square, j: usize, k: usize) -> Result<Frac, Event>
     requires first { j < length square.now.coef }
     requires second { k < length square.now.coef }
@@ -60,17 +58,16 @@ fn squares_added(squares: &Squares, width: usize, j: usize, k: usize) -> Result<
 }
 
 // The squares sum to the form's entry at two places.
-#[tactic(auto, unfolding(check_law::specs::Squares::pair_test), using(crate::proofs::Places::again))]
+#[tactic(auto, unfolding(cert_check_law::specs::Squares::pair_test))]
 fn pair_tested(p: &Program, squares: &Squares, j: u32, k: u32) -> Result<(), Event>
     requires wide { All (λ s. length s.coef ≡ length p.now.columns) squares.now }
     requires first { j < length p.now.columns }
     requires second { k < length p.now.columns }
     ensures { result ≡ pair_test p.now.pairs squares.now j k }
 {
-    let width = column_count(p);
+    let width = p.columns();
     let total = squares_added(squares, width as usize, j as usize, k as usize)?;
-    let row = p.pairs_of(j);
-    tested(same(total, row[k as usize]), 5, j + 1)
+    tested(same(total, p.pair(j, k)), 5, j + 1)
 }
 
 // They do at a column and each from there on.
@@ -80,19 +77,19 @@ fn row_tested(p: &Program, squares: &Squares, j: u32) -> Result<(), Event>
     requires first { j < length p.now.columns }
     ensures { result ≡ pairs_in_row p.now.pairs squares.now j j (length p.now.columns - j) }
 {
-    for k in j..column_count(p) {
+    for k in j..p.columns() {
         pair_tested(p, squares, j, k)?;
     }
     Ok(())
 }
 
 /// The test that the squares sum to the form.
-#[tactic(auto, unfolding(check_law::specs::Squares::squares_test), using(crate::proofs::Pairs::all_step))]
+#[tactic(auto, unfolding(cert_check_law::specs::Squares::squares_test), using(crate::proofs::Pairs::all_step))]
 pub fn squares_tested(p: &Program, squares: &Squares) -> Result<(), Event>
     requires { All (λ s. length s.coef ≡ length p.now.columns) squares.now }
     ensures { result ≡ squares_test p.now squares.now }
 {
-    for j in 0..column_count(p) {
+    for j in 0..p.columns() {
         row_tested(p, squares, j)?;
     }
     Ok(())

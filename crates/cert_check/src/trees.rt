@@ -1,25 +1,23 @@
 // The tests of a tree.
 
-ghost use Rattle.std.specs.Prelude.{◌≡◌, ◌≢◌, ◌<◌, ◌≤◌, ◌+◌, ◌^◌, ◌∷◌, [], length, reverse, neg_ℤ, pos, slice_index_or, vec_len, vec_capacity};
+ghost use Rattle.std.specs.Prelude.{◌≡◌, ◌≢◌, ◌<◌, ◌≤◌, ◌+◌, ◌^◌, ◌∷◌, [], length, neg_ℤ, pos, slice_index_or};
 ghost use Rattle.std.specs.List.{AllByRecursion};
 ghost use Rattle.rational.specs.Rational.{whole};
 ghost use Rattle.program_law.specs.Program.{bounds, marks};
-ghost use Rattle.check_law.specs.Fits.{FitsNode};
-ghost use Rattle.check_law.specs.Tree.{is_above, branch_step, cross_test, node_step, nodes_from, tree_test};
-ghost use Rattle.cert_check.specs.Walk.{waiting_of, AreWithin, StepLeaves, branches};
+ghost use Rattle.cert_check_law.specs.Fits.{FitsNode};
+ghost use Rattle.cert_check_law.specs.Tree.{branch_step, cross_test, node_step, tree_test};
+ghost use Rattle.cert_check.specs.Walk.{waiting_of, StepLeaves, IsStart, branches};
 
-use crate::cuts::{Cut, branch, next_region};
 use crate::leaves::{bound_tested, farkas_tested};
-use crate::reading::{column_count, is_marked};
+use crate::walks::{Walk, branch, next_region};
+use cert_check_law::Event;
 use certificate_law::{Node, Tree};
-use check_law::Event;
-use check_steps::{at_most, sum, tested};
+use check_steps::{sum, tested};
 use frac_core::Frac;
-use program_law::Row;
-use program_model::Program;
+use program_model::{Program, Region, is_crossed};
 
-/// The node at a place.
-pub fn node_of(tree: &Tree, k: usize) -> &Node
+// The node at a place.
+fn node_of(tree: &Tree, k: usize) -> &Node
     requires { k < length tree.now }
     ensures { result.now ≡ slice_index_or tree.now k result.now }
 {
@@ -57,51 +55,31 @@ fn whole(k: i128) -> Frac
 }
 
 // A branch on the region at hand: goes to its left half, and keeps the right one.
-#[tactic(auto, unfolding(check_law::specs::Tree::branch_step))]
-fn branch_taken(
-    p: &Program,
-    number: u32,
-    j: u32,
-    k: i128,
-    region: &mut [Row],
-    cuts: &mut Vec<Cut>,
-) -> Result<bool, Event>
+#[tactic(auto, unfolding(cert_check_law::specs::Tree::branch_step))]
+fn branch_taken(p: &Program, number: u32, j: u32, k: i128, walk: &mut Walk) -> Result<bool, Event>
     requires column { j < length p.now.columns }
     requires number { k ≢ neg_ℤ (pos (2 ^ 127)) }
-    requires region { length region.old ≡ length p.now.columns }
-    requires within { AreWithin (length region.old) (reverse cuts.old.items) }
-    requires room { vec_len cuts.old < vec_capacity cuts.old }
-    ensures step { StepLeaves result region.new (reverse cuts.new.items)
-        (branch_step (marks p.now) number region.old j k (waiting_of region.old (reverse cuts.old.items))) }
-    ensures within { AreWithin (length region.old) (reverse cuts.new.items) }
-    ensures len { vec_len cuts.new ≤ vec_len cuts.old + 1 }
-    ensures capacity { vec_capacity cuts.old ≤ vec_capacity cuts.new }
+    requires width { length walk.old.region ≡ length p.now.columns }
+    requires room { length walk.old.before < walk.old.room }
+    ensures step { StepLeaves result walk.new (branch_step (marks p.now) number walk.old.region j k (waiting_of walk.old.before)) }
+    ensures width { length walk.new.region ≡ length walk.old.region }
+    ensures cuts { length walk.new.before ≤ length walk.old.before + 1 }
+    ensures room { walk.old.room ≤ walk.new.room }
 {
-    tested(is_marked(p, j), 6, number)?;
+    tested(p.is_marked(j), 6, number)?;
     let most = whole(k);
     let above = sum(most, Frac::whole(1))?;
-    branch(region, cuts, j as usize, most, above);
+    branch(walk, j, most, above);
     Ok(true)
 }
 
-// Whether a low bound is above a high one.
-fn is_above(low: Option<Frac>, high: Option<Frac>) -> bool
-    ensures { result ≡ is_above low high }
-{
-    match (low, high) {
-        (Some(low), Some(high)) => !at_most(low, high),
-        _ => false,
-    }
-}
-
 // A column's bounds cross.
-#[tactic(auto, unfolding(check_law::specs::Tree::cross_test), using(crate::proofs::Places::again))]
-fn cross_tested(number: u32, region: &[Row], j: u32) -> Result<(), Event>
+#[tactic(auto, unfolding(cert_check_law::specs::Tree::cross_test))]
+fn cross_tested(number: u32, region: &Region, j: u32) -> Result<(), Event>
     requires { j < length region.now }
     ensures { result ≡ cross_test number region.now j }
 {
-    let bounds = region[j as usize];
-    tested(is_above(bounds.low, bounds.high), 10, number)
+    tested(is_crossed(&region.at(j)), 10, number)
 }
 
 // A node on the region at hand. Answers whether a region waits after it, which is then at hand.
@@ -110,62 +88,45 @@ fn node_taken(
     v: &Option<Frac>,
     number: u32,
     node: &Node,
-    region: &mut [Row],
-    cuts: &mut Vec<Cut>,
-    products: &mut [Frac],
+    walk: &mut Walk,
 ) -> Result<bool, Event>
     requires node { FitsNode p.now node.now }
-    requires region { length region.old ≡ length p.now.columns }
-    requires products { length products.old ≡ length p.now.columns }
-    requires within { AreWithin (length region.old) (reverse cuts.old.items) }
-    requires room { vec_len cuts.old + branches (node.now ∷ []) ≤ vec_capacity cuts.old }
-    ensures step { StepLeaves result region.new (reverse cuts.new.items)
-        (node_step p.now v.now number region.old node.now (waiting_of region.old (reverse cuts.old.items))) }
-    ensures within { AreWithin (length region.old) (reverse cuts.new.items) }
-    ensures len { vec_len cuts.new ≤ vec_len cuts.old + branches (node.now ∷ []) }
-    ensures capacity { vec_capacity cuts.old ≤ vec_capacity cuts.new }
+    requires width { length walk.old.region ≡ length p.now.columns }
+    requires room { length walk.old.before + branches (node.now ∷ []) ≤ walk.old.room }
+    ensures step { StepLeaves result walk.new (node_step p.now v.now number walk.old.region node.now (waiting_of walk.old.before)) }
+    ensures width { length walk.new.region ≡ length walk.old.region }
+    ensures cuts { length walk.new.before ≤ length walk.old.before + branches (node.now ∷ []) }
+    ensures room { walk.old.room ≤ walk.new.room }
 {
     match node {
-        Node::Branch(j, k) => branch_taken(p, number, *j, *k, region, cuts),
+        Node::Branch(j, k) => branch_taken(p, number, *j, *k, walk),
         Node::Bound(w, y) => {
-            bound_tested(p, v, number, region, w, y, products)?;
-            Ok(next_region(region, cuts))
+            bound_tested(p, v, number, walk.region(), w, y)?;
+            Ok(next_region(walk))
         }
         Node::Farkas(y) => {
-            farkas_tested(p, number, region, y)?;
-            Ok(next_region(region, cuts))
+            farkas_tested(p, number, walk.region(), y)?;
+            Ok(next_region(walk))
         }
         Node::Cross(j) => {
-            cross_tested(number, region, *j)?;
-            Ok(next_region(region, cuts))
+            cross_tested(number, walk.region(), *j)?;
+            Ok(next_region(walk))
         }
     }
 }
 
-/// The tests of a tree on the program's bounds, which `region` has. `cuts` is empty, with room for the tree's branches, and
-/// `products` is room for a number for each column.
+/// The tests of a tree on the program's bounds, where a walk with room for the tree's branches begins.
 #[tactic(auto, using(crate::proofs::Turns::more_branches))]
-pub fn tree_tested(
-    p: &Program,
-    v: &Option<Frac>,
-    tree: &Tree,
-    region: &mut [Row],
-    cuts: &mut Vec<Cut>,
-    products: &mut [Frac],
-) -> Result<(), Event>
-    requires region { region.old ≡ bounds p.now }
-    requires products { length products.old ≡ length p.now.columns }
-    requires empty { cuts.old.items ≡ [] }
-    requires room { branches tree.now ≤ vec_capacity cuts.old }
+pub fn tree_tested(p: &Program, v: &Option<Frac>, tree: &Tree, walk: &mut Walk) -> Result<(), Event>
+    requires start { IsStart p.now (branches tree.now) walk.old }
     requires count { length tree.now < 2 ^ 32 }
     requires nodes { AllByRecursion (FitsNode p.now) tree.now }
     ensures { result ≡ tree_test p.now v.now (bounds p.now) tree.now }
 {
-    let _columns = column_count(p);
+    let _columns = p.columns();
     for i in 0..tree.len() {
         let number = i as u32 + 1;
-        let more = node_taken(p, v, number, node_of(tree, i), region, cuts, products)?;
-        if !more {
+        if !node_taken(p, v, number, node_of(tree, i), walk)? {
             return Ok(());
         }
     }

@@ -1,6 +1,6 @@
 -- A text that is read is that of items which are accepted one after another, and tell a certificate that can be written.
 use Rattle.std.proofs.Common.{◌≡◌, ◌≢◌, ℕ, zero, suc, ◌+◌, ◌*◌, ◌^◌, ◌<◌, ◌≤◌, Bool, true, false, List, [], ◌∷◌, ◌++◌, length, Option, Some, None, Result, Ok, Err, refl, sym, ap, ◌∙◌, subst, arith, lit<, append_assoc, ℤ, pos}
-use Rattle.std.specs.Prelude.{◌&&◌, ◌==◌, nat_le, unsigned_abs, neg_ℤ, IfOk}
+use Rattle.std.specs.Prelude.{◌==◌, nat_le, unsigned_abs, neg_ℤ, IfOk}
 use Rattle.std.specs.List.{flat_map, join_with_byte, AllByRecursion}
 use Rattle.std.proofs.lemmas.Bool.{eqb-true}
 use Rattle.std.proofs.lemmas.Bool.Decides.{nat_tests}
@@ -18,7 +18,8 @@ use Rattle.certificate_law.specs.declared.Node.TheVariants as nodes
 use Rattle.certificate_law.specs.declared.Certificate.{Certificate}
 use Rattle.certificate_law.specs.Nodes.{AreTrees}
 use Rattle.certificate_law.specs.Squares.{ArePositive}
-use Rattle.check_law.specs.Fits.{FitsNode, HasNoBound, IsColumnVector}
+use Rattle.cert_check_law.specs.Fits.{FitsNode, HasNoBound, IsColumnVector}
+use Rattle.mps_tokens.specs.declared.words.CertificateWord.TheVariants as words
 use Rattle.cert_text.specs.declared.items.Item.{Item}
 use Rattle.cert_text.specs.declared.items.Item.TheVariants as items
 use Rattle.cert_text.specs.declared.items.Claim.{Claim}
@@ -26,16 +27,17 @@ use Rattle.cert_text.specs.declared.items.Claim.TheVariants.{Optimal, Infeasible
 use Rattle.cert_text.specs.declared.kinds.CertKind.{CertKind}
 use Rattle.cert_text.specs.declared.places.Place.{Place}
 use Rattle.cert_text.specs.declared.draft.Draft.{Draft}
-use Rattle.cert_text.specs.Parts.{parts_of, pieces_of}
-use Rattle.cert_text.specs.Places.{start, after, place_after, may_stand, is_ended, is_optimal}
+use Rattle.cert_fields.specs.Parts.{parts_of, pieces_of}
+use Rattle.cert_text.specs.Places.{start, place_after, is_ended}
 use Rattle.cert_text.specs.Faults.{line_fault}
 use Rattle.cert_text.specs.Told.{blank, item_of, with_item, with_coef, with_w, with_y, on_last, told_by, certificate_told}
 use Rattle.cert_text.specs.Reading.{Answer, read_on, read_of, read_claimed, read_pieces, claim_in, Reads}
 use Rattle.cert_text.specs.declared.kinds.CertStop.{CertStop}
 use Rattle.cert_text.specs.History.{Tracks}
 use Rattle.cert_text.specs.Writable.{IsWritable, branch_count}
-use Rattle.cert_text.proofs.Histories.{item_word, tracks, is_tree, start_tracked}
-use Rattle.cert_text.proofs.ItemFields.{fields_of, Accepted}
+use Rattle.cert_text.proofs.Histories.{tracks, is_tree, start_tracked}
+use Rattle.cert_text.proofs.Lands.{is_optimal, can_stand, bound_claim, lands, after_is}
+use Rattle.cert_text.proofs.ItemFields.{fields_of, Accepted, accepted_stands}
 use Rattle.cert_text.proofs.ItemRuns.{MayBound}
 use Rattle.cert_text.proofs.LinesBack.{line_back}
 use Rattle.cert_text.proofs.TextsRead.{Runs, after_all, tell_all, item_text}
@@ -79,11 +81,12 @@ one_more p claim n earlier piece next pieces c rest e = go (is_ended (place_afte
         let item = item_of p (parts_of piece) in
         let more = rest (rw (f, g) at e) in
         let back = line_back p (place_after claim earlier) (parts_of piece) g in
+        let there = after_is (place_after claim earlier) item (accepted_stands p (place_after claim earlier) item back.accepted) in
         let line : piece ≡ join_with_byte 32 (fields_of p item) = sym (join_with_byte-slice_split 32 piece) ∙ ap (join_with_byte 32) (sym back.fields_are) in
         record {
           later = item ∷ more.later;
-          runs = (f, back.accepted, more.runs);
-          ends = more.ends;
+          runs = (f, back.accepted, subst (λ t. Runs p t more.later) there more.runs);
+          ends = subst (λ t. is_ended (after_all t more.later).part ≡ true) there more.ends;
           told = more.told;
           text = ap (λ (l : List ℕ). l ++ 10 ∷ join_with_byte 10 (next ∷ pieces)) line
               ∙ ap (λ (l : List ℕ). join_with_byte 32 (fields_of p item) ++ 10 ∷ l) more.text
@@ -97,11 +100,11 @@ accepts p claim n earlier (piece ∷ next ∷ pieces) c e = one_more p claim n e
 
 -- ---- what is told can be written
 
-all_push : {A : Type 0} (P : A → Type 0) (xs : List A) (x : A) → AllByRecursion P xs → P x → AllByRecursion P (xs ++ x ∷ [])
+pub all_push : {A : Type 0} (P : A → Type 0) (xs : List A) (x : A) → AllByRecursion P xs → P x → AllByRecursion P (xs ++ x ∷ [])
 all_push P [] x h k = (k, tt)
 all_push P (y ∷ ys) x h k = (h.0, all_push P ys x h.1 k)
 
-all_last : {A : Type 0} (P : A → Type 0) (f : A → A) → ((x : A) → P x → P (f x)) → (xs : List A) → AllByRecursion P xs → AllByRecursion P (on_last f xs)
+pub all_last : {A : Type 0} (P : A → Type 0) (f : A → A) → ((x : A) → P x → P (f x)) → (xs : List A) → AllByRecursion P xs → AllByRecursion P (on_last f xs)
 all_last P f g [] h = h
 all_last P f g (x ∷ []) h = (g x h.0, tt)
 all_last P f g (x ∷ y ∷ ys) h = (h.0, all_last P f g (y ∷ ys) h.1)
@@ -117,19 +120,10 @@ pub record AreVectors (p : Program) (d : Draft) : Type 0 where
   pub direction : length d.direction ≡ length p.columns
 
 vectors_more : (p : Program) (c r : ℕ) (d : Draft) (item : Item) → AreVectors p d → AreVectors p (with_item c r item d)
-vectors_more p c r d (items.Value v) h = record { point = h.point; ray = h.ray; direction = h.direction }
 vectors_more p c r d (items.Point j v) h = record { point = length-set d.point j v ∙ h.point; ray = h.ray; direction = h.direction }
 vectors_more p c r d (items.Ray j v) h = record { point = h.point; ray = length-set d.ray j v ∙ h.ray; direction = h.direction }
 vectors_more p c r d (items.Direction j v) h = record { point = h.point; ray = h.ray; direction = length-set d.direction j v ∙ h.direction }
-vectors_more p c r d (items.Square v) h = record { point = h.point; ray = h.ray; direction = h.direction }
-vectors_more p c r d (items.Coef j v) h = record { point = h.point; ray = h.ray; direction = h.direction }
-vectors_more p c r d (items.Branch j k) h = record { point = h.point; ray = h.ray; direction = h.direction }
-vectors_more p c r d items.Bound h = record { point = h.point; ray = h.ray; direction = h.direction }
-vectors_more p c r d items.Farkas h = record { point = h.point; ray = h.ray; direction = h.direction }
-vectors_more p c r d (items.Cross j) h = record { point = h.point; ray = h.ray; direction = h.direction }
-vectors_more p c r d (items.W j v) h = record { point = h.point; ray = h.ray; direction = h.direction }
-vectors_more p c r d (items.Y i v) h = record { point = h.point; ray = h.ray; direction = h.direction }
-vectors_more p c r d items.End h = h
+vectors_more p c r d item h = record { point = h.point; ray = h.ray; direction = h.direction }
 
 -- squares, so many as are counted
 pub record AreSquares (p : Program) (count : ℕ) (qs : List Square) : Type 0 where
@@ -154,11 +148,7 @@ zeros_count : (n : ℕ) → length (zeros n) ≡ n
 zeros_count zero = refl
 zeros_count (suc n) = ap (λ (n : ℕ). suc n) (zeros_count n)
 
-squares_more : (p : Program) (s : Place) (d : Draft) (item : Item) → Accepted p s item → AreSquares p s.squares d.squares → AreSquares p (after s item).squares (with_item (length p.columns) (length p.rows) item d).squares
-squares_more p s d (items.Value v) a h = h
-squares_more p s d (items.Point j v) a h = h
-squares_more p s d (items.Ray j v) a h = h
-squares_more p s d (items.Direction j v) a h = h
+squares_more : (p : Program) (s : Place) (d : Draft) (item : Item) → Accepted p s item → AreSquares p s.squares d.squares → AreSquares p (lands s item).squares (with_item (length p.columns) (length p.rows) item d).squares
 squares_more p s d (items.Square v) a h =
     let q : Square = record { weight = v; coef = zeros (length p.columns) } in
     let room = below 128 s.squares a.3 in
@@ -174,13 +164,7 @@ squares_more p s d (items.Coef j v) a h = record {
   counted = count_last (with_coef j v) d.squares ∙ h.counted;
   few = h.few;
 }
-squares_more p s d (items.Branch j k) a h = h
-squares_more p s d items.Bound a h = h
-squares_more p s d items.Farkas a h = h
-squares_more p s d (items.Cross j) a h = h
-squares_more p s d (items.W j v) a h = h
-squares_more p s d (items.Y i v) a h = h
-squares_more p s d items.End a h = h
+squares_more p s d item a h = h
 
 -- nodes, with as many branches as are counted
 pub record AreNodes (p : Program) (claim : Claim) (count : ℕ) (ns : List Node) : Type 0 where
@@ -192,16 +176,12 @@ pub record AreNodes (p : Program) (claim : Claim) (count : ℕ) (ns : List Node)
 branches_push : (ns : List Node) (n : Node) → branch_count (ns ++ n ∷ []) ≡ branch_count ns + branch_count (n ∷ [])
 branches_push [] n = omega arith
 branches_push (nodes.Branch j k ∷ ns) n = let e = branches_push ns n in omega (arith, e)
-branches_push (nodes.Bound w y ∷ ns) n = branches_push ns n
-branches_push (nodes.Farkas y ∷ ns) n = branches_push ns n
-branches_push (nodes.Cross j ∷ ns) n = branches_push ns n
+branches_push (m ∷ ns) n = branches_push ns n
 
 no_bound_push : (ns : List Node) (n : Node) → HasNoBound ns → HasNoBound (n ∷ []) → HasNoBound (ns ++ n ∷ [])
 no_bound_push [] n h k = k
-no_bound_push (nodes.Branch j i ∷ ns) n h k = no_bound_push ns n h k
 no_bound_push (nodes.Bound w y ∷ ns) n h k = absurd h
-no_bound_push (nodes.Farkas y ∷ ns) n h k = no_bound_push ns n h k
-no_bound_push (nodes.Cross j ∷ ns) n h k = no_bound_push ns n h k
+no_bound_push (m ∷ ns) n h k = no_bound_push ns n h k
 
 bound_push : (b : Bool) (ns : List Node) (n : Node) → MayBound b ns → MayBound b (n ∷ []) → MayBound b (ns ++ n ∷ [])
 bound_push true ns n h k = tt
@@ -225,17 +205,13 @@ branches_last : (p : Program) (f : Node → Node) → IsKind p f → (ns : List 
 branches_last p f k [] = refl
 branches_last p f k (n ∷ []) = k.branches n []
 branches_last p f k (nodes.Branch j i ∷ m ∷ ns) = ap (λ n. n + 1) (branches_last p f k (m ∷ ns))
-branches_last p f k (nodes.Bound w y ∷ m ∷ ns) = branches_last p f k (m ∷ ns)
-branches_last p f k (nodes.Farkas y ∷ m ∷ ns) = branches_last p f k (m ∷ ns)
-branches_last p f k (nodes.Cross j ∷ m ∷ ns) = branches_last p f k (m ∷ ns)
+branches_last p f k (n ∷ m ∷ ns) = branches_last p f k (m ∷ ns)
 
 no_bound_last : (p : Program) (f : Node → Node) → IsKind p f → (ns : List Node) → HasNoBound ns → HasNoBound (on_last f ns)
 no_bound_last p f k [] h = h
 no_bound_last p f k (n ∷ []) h = k.bound n h
-no_bound_last p f k (nodes.Branch j i ∷ m ∷ ns) h = no_bound_last p f k (m ∷ ns) h
 no_bound_last p f k (nodes.Bound w y ∷ m ∷ ns) h = absurd h
-no_bound_last p f k (nodes.Farkas y ∷ m ∷ ns) h = no_bound_last p f k (m ∷ ns) h
-no_bound_last p f k (nodes.Cross j ∷ m ∷ ns) h = no_bound_last p f k (m ∷ ns) h
+no_bound_last p f k (n ∷ m ∷ ns) h = no_bound_last p f k (m ∷ ns) h
 
 bound_last : (p : Program) (f : Node → Node) → IsKind p f → (b : Bool) (ns : List Node) → MayBound b ns → MayBound b (on_last f ns)
 bound_last p f k true ns h = tt
@@ -253,43 +229,32 @@ w_kind : (p : Program) (j : ℕ) (v : ℚ) → IsKind p (with_w j v)
 w_kind p j v = record { fits = fits; branches = branches; bound = bound }
   where
     fits : (n : Node) → FitsNode p n → FitsNode p (with_w j v n)
-    fits (nodes.Branch i k) h = h
     fits (nodes.Bound w y) h = (length-set w j v ∙ h.0, h.1)
-    fits (nodes.Farkas y) h = h
-    fits (nodes.Cross i) h = h
+    fits n h = h
 
     branches : (n : Node) (ns : List Node) → branch_count (with_w j v n ∷ ns) ≡ branch_count (n ∷ ns)
     branches (nodes.Branch i k) ns = refl
-    branches (nodes.Bound w y) ns = refl
-    branches (nodes.Farkas y) ns = refl
-    branches (nodes.Cross i) ns = refl
+    branches n ns = refl
 
     bound : (n : Node) → HasNoBound (n ∷ []) → HasNoBound (with_w j v n ∷ [])
     bound (nodes.Branch i k) h = h
-    bound (nodes.Bound w y) h = h
-    bound (nodes.Farkas y) h = h
-    bound (nodes.Cross i) h = h
+    bound n h = h
 
 y_kind : (p : Program) (j : ℕ) (v : ℚ) → IsKind p (with_y j v)
 y_kind p j v = record { fits = fits; branches = branches; bound = bound }
   where
     fits : (n : Node) → FitsNode p n → FitsNode p (with_y j v n)
-    fits (nodes.Branch i k) h = h
     fits (nodes.Bound w y) h = (h.0, length-set y j v ∙ h.1)
     fits (nodes.Farkas y) h = length-set y j v ∙ h
-    fits (nodes.Cross i) h = h
+    fits n h = h
 
     branches : (n : Node) (ns : List Node) → branch_count (with_y j v n ∷ ns) ≡ branch_count (n ∷ ns)
     branches (nodes.Branch i k) ns = refl
-    branches (nodes.Bound w y) ns = refl
-    branches (nodes.Farkas y) ns = refl
-    branches (nodes.Cross i) ns = refl
+    branches n ns = refl
 
     bound : (n : Node) → HasNoBound (n ∷ []) → HasNoBound (with_y j v n ∷ [])
     bound (nodes.Branch i k) h = h
-    bound (nodes.Bound w y) h = h
-    bound (nodes.Farkas y) h = h
-    bound (nodes.Cross i) h = h
+    bound n h = h
 
 -- no branch number is -2^127
 in_range : (k : ℤ) → unsigned_abs k ≤ max_part → k ≢ neg_ℤ (pos (2 ^ 127))
@@ -306,39 +271,28 @@ bound_allowed : (b : Bool) (n : Node) → b ≡ true → MayBound b (n ∷ [])
 bound_allowed true n e = tt
 bound_allowed false n e = absurd cc
 
-second_true : (a b : Bool) → (a && b) ≡ true → b ≡ true
-second_true true b e = e
-second_true false b e = absurd cc
-
 add_none : (n : ℕ) → n + 0 ≡ n
 add_none n = omega arith
 
+leaf_push : (p : Program) (claim : Claim) (count : ℕ) (ns : List Node) (n : Node) → AreNodes p claim count ns → FitsNode p n → branch_count (n ∷ []) ≡ 0 → MayBound (is_optimal claim) (n ∷ []) → AreNodes p claim count (ns ++ n ∷ [])
+leaf_push p claim count ns n h fits e b =
+    let few : count + 0 ≤ 20256 = omega (arith, h.few) in
+    subst (λ c. AreNodes p claim c (ns ++ n ∷ [])) (add_none count) (node_push p claim count 0 ns n h fits e few b)
+
 nodes_more : (p : Program) (claim : Claim) (s : Place) (d : Draft) (item : Item) → s.claim ≡ claim → Accepted p s item → AreNodes p claim s.branches d.nodes
-    → AreNodes p claim (after s item).branches (with_item (length p.columns) (length p.rows) item d).nodes
-nodes_more p claim s d (items.Value v) c a h = h
-nodes_more p claim s d (items.Point j v) c a h = h
-nodes_more p claim s d (items.Ray j v) c a h = h
-nodes_more p claim s d (items.Direction j v) c a h = h
-nodes_more p claim s d (items.Square v) c a h = h
-nodes_more p claim s d (items.Coef j v) c a h = h
+    → AreNodes p claim (lands s item).branches (with_item (length p.columns) (length p.rows) item d).nodes
 nodes_more p claim s d (items.Branch j k) c a h =
     let room = below 20256 s.branches a.3 in
     node_push p claim s.branches 1 d.nodes (nodes.Branch j k) h (a.1, in_range k a.2) refl (omega (arith, room)) (leaf_allowed (is_optimal claim) (nodes.Branch j k) tt)
 nodes_more p claim s d items.Bound c a h =
-    let leaf = nodes.Bound (zeros (length p.columns)) (zeros (length p.rows)) in
-    let few : s.branches + 0 ≤ 20256 = omega (arith, h.few) in
-    subst (λ n. AreNodes p claim n (d.nodes ++ leaf ∷ [])) (add_none s.branches) (node_push p claim s.branches 0 d.nodes leaf h (zeros_count (length p.columns), zeros_count (length p.rows)) refl few
-    (bound_allowed (is_optimal claim) leaf (ap is_optimal (sym c) ∙ second_true _ (is_optimal s.claim) a)))
+    leaf_push p claim s.branches d.nodes (nodes.Bound (zeros (length p.columns)) (zeros (length p.rows))) h (zeros_count (length p.columns), zeros_count (length p.rows)) refl
+    (bound_allowed (is_optimal claim) (nodes.Bound (zeros (length p.columns)) (zeros (length p.rows))) (ap is_optimal (sym c) ∙ bound_claim s.claim s.part (can_stand s words.Bound a)))
 nodes_more p claim s d items.Farkas c a h =
-    let leaf = nodes.Farkas (zeros (length p.rows)) in
-    let few : s.branches + 0 ≤ 20256 = omega (arith, h.few) in
-    subst (λ n. AreNodes p claim n (d.nodes ++ leaf ∷ [])) (add_none s.branches) (node_push p claim s.branches 0 d.nodes leaf h (zeros_count (length p.rows)) refl few (leaf_allowed (is_optimal claim) leaf tt))
-nodes_more p claim s d (items.Cross j) c a h =
-    let few : s.branches + 0 ≤ 20256 = omega (arith, h.few) in
-    subst (λ n. AreNodes p claim n (d.nodes ++ nodes.Cross j ∷ [])) (add_none s.branches) (node_push p claim s.branches 0 d.nodes (nodes.Cross j) h a.1 refl few (leaf_allowed (is_optimal claim) (nodes.Cross j) tt))
+    leaf_push p claim s.branches d.nodes (nodes.Farkas (zeros (length p.rows))) h (zeros_count (length p.rows)) refl (leaf_allowed (is_optimal claim) (nodes.Farkas (zeros (length p.rows))) tt)
+nodes_more p claim s d (items.Cross j) c a h = leaf_push p claim s.branches d.nodes (nodes.Cross j) h a.1 refl (leaf_allowed (is_optimal claim) (nodes.Cross j) tt)
 nodes_more p claim s d (items.W j v) c a h = node_last p claim s.branches (with_w j v) (w_kind p j v) d.nodes h
 nodes_more p claim s d (items.Y i v) c a h = node_last p claim s.branches (with_y i v) (y_kind p i v) d.nodes h
-nodes_more p claim s d items.End c a h = h
+nodes_more p claim s d item c a h = h
 
 -- ---- all of it, item by item
 
@@ -349,37 +303,11 @@ pub record IsGood (p : Program) (claim : Claim) (s : Place) (d : Draft) : Type 0
   pub nodes_are : AreNodes p claim s.branches d.nodes
   pub tracked : Tracks claim s d.nodes
 
-claim_stays : (s : Place) (item : Item) → (after s item).claim ≡ s.claim
+claim_stays : (s : Place) (item : Item) → (lands s item).claim ≡ s.claim
 claim_stays s (items.Value v) = refl
-claim_stays s (items.Point j v) = refl
-claim_stays s (items.Ray j v) = refl
-claim_stays s (items.Direction j v) = refl
-claim_stays s (items.Square v) = refl
-claim_stays s (items.Coef j v) = refl
-claim_stays s (items.Branch j k) = refl
-claim_stays s items.Bound = refl
-claim_stays s items.Farkas = refl
-claim_stays s (items.Cross j) = refl
-claim_stays s (items.W j v) = refl
-claim_stays s (items.Y i v) = refl
-claim_stays s items.End = refl
+claim_stays s item = refl
 
-accepted_stands : (p : Program) (s : Place) (item : Item) → Accepted p s item → may_stand s (item_word item) ≡ true
-accepted_stands p s (items.Value v) a = a.0
-accepted_stands p s (items.Point j v) a = a.stands
-accepted_stands p s (items.Ray j v) a = a.stands
-accepted_stands p s (items.Direction j v) a = a.stands
-accepted_stands p s (items.Square v) a = a.0
-accepted_stands p s (items.Coef j v) a = a.stands
-accepted_stands p s (items.Branch j k) a = a.0
-accepted_stands p s items.Bound a = a
-accepted_stands p s items.Farkas a = a
-accepted_stands p s (items.Cross j) a = a.0
-accepted_stands p s (items.W j v) a = a.stands
-accepted_stands p s (items.Y i v) a = a.stands
-accepted_stands p s items.End a = a
-
-pub good_more : (p : Program) (claim : Claim) (s : Place) (d : Draft) (item : Item) → Accepted p s item → IsGood p claim s d → IsGood p claim (after s item) (with_item (length p.columns) (length p.rows) item d)
+pub good_more : (p : Program) (claim : Claim) (s : Place) (d : Draft) (item : Item) → Accepted p s item → IsGood p claim s d → IsGood p claim (lands s item) (with_item (length p.columns) (length p.rows) item d)
 good_more p claim s d item a h = record {
   claim_is = claim_stays s item ∙ h.claim_is;
   vectors = vectors_more p (length p.columns) (length p.rows) d item h.vectors;
@@ -388,9 +316,9 @@ good_more p claim s d item a h = record {
   tracked = tracks claim (length p.columns) (length p.rows) s d item (accepted_stands p s item a) h.tracked;
 }
 
-good_all : (p : Program) (claim : Claim) (s : Place) (d : Draft) (later : List Item) → Runs p s later → IsGood p claim s d → IsGood p claim (after_all s later) (tell_all p d later)
+pub good_all : (p : Program) (claim : Claim) (s : Place) (d : Draft) (later : List Item) → Runs p s later → IsGood p claim s d → IsGood p claim (after_all s later) (tell_all p d later)
 good_all p claim s d [] r h = h
-good_all p claim s d (item ∷ later) r h = good_all p claim (after s item) (with_item (length p.columns) (length p.rows) item d) later r.2 (good_more p claim s d item r.1 h)
+good_all p claim s d (item ∷ later) r h = good_all p claim (lands s item) (with_item (length p.columns) (length p.rows) item d) later r.2 (good_more p claim s d item r.1 h)
 
 pub good_start : (p : Program) (claim : Claim) → IsGood p claim (start claim) (blank (length p.columns))
 good_start p claim = record {
@@ -413,8 +341,7 @@ tree_size (suc w) [] t = absurd t
 tree_size zero (n ∷ ns) t = absurd t
 tree_size (suc w) (nodes.Branch j k ∷ ns) t = let e = tree_size (suc (suc w)) ns t in omega (arith, e)
 tree_size (suc w) (nodes.Bound x y ∷ ns) t = let e = tree_size w ns t in omega (arith, e)
-tree_size (suc w) (nodes.Farkas y ∷ ns) t = let e = tree_size w ns t in omega (arith, e)
-tree_size (suc w) (nodes.Cross j ∷ ns) t = let e = tree_size w ns t in omega (arith, e)
+tree_size (suc w) (n ∷ ns) t = let e = tree_size w ns t in omega (arith, e)
 
 few_nodes : (ns : List Node) (count : ℕ) → AreTrees 1 ns → branch_count ns ≡ count → count ≤ 20256 → length ns < 2 ^ 32
 few_nodes ns count t e few = let size = tree_size 1 ns t in small (length ns) (omega (arith, size, e, few))
@@ -428,7 +355,7 @@ few_branches_of p claim count ns h = omega (arith, h.counted, h.few)
 few_squares_of : (p : Program) (count : ℕ) (qs : List Square) → AreSquares p count qs → length qs ≤ 128
 few_squares_of p count qs h = omega (arith, h.counted, h.few)
 
-writable : (p : Program) (claim : Claim) (s : Place) (d : Draft) → IsGood p claim s d → is_ended s.part ≡ true → IsWritable p (certificate_told claim d)
+pub writable : (p : Program) (claim : Claim) (s : Place) (d : Draft) → IsGood p claim s d → is_ended s.part ≡ true → IsWritable p (certificate_told claim d)
 writable p Optimal s d h e =
     let tree = is_tree Optimal s d.nodes h.tracked e in
     record {

@@ -7,8 +7,10 @@ use Rattle.std.proofs.lemmas.List.Concat.{flat_map-append}
 use Rattle.std.proofs.lemmas.Option.{get_or_from_slice_get, slice_get_within}
 use Rattle.std.proofs.Math.Seq.{drop-cons}
 use Rattle.rational.specs.Rational.{ℚ, zero_ℚ}
-use Rattle.cert_text.specs.Text.{Lines, line_text, lines_text, entry_line, entry_lines, name_at}
-use Rattle.cert_text.specs.Appending.{Extends, Appends}
+use Rattle.cert_fields.specs.Names.{name_at}
+use Rattle.cert_fields.specs.Lines.{line_text}
+use Rattle.cert_text.specs.Text.{Lines, lines_text, entry_line, entry_lines}
+use Rattle.cert_fields.specs.Appending.{Extends, Appends}
 
 pub extends_self : (xs : List ℕ) → Extends xs xs
 extends_self xs = record { more = []; is = sym (append-nil xs) }

@@ -2,9 +2,8 @@
 use Rattle.std.proofs.Common.{◌≡◌, ℕ, zero, suc, ◌+◌, ◌-◌, ◌<◌, ◌≤◌, Bool, true, false, List, [], ◌∷◌, ◌++◌, length, Option, Some, None, refl, sym, ap, ◌∙◌, subst, arith, ℤ}
 use Rattle.rational.specs.Rational.{ℚ}
 use Rattle.program_law.specs.Changes.{zeros}
-use Rattle.std.specs.Prelude.{◌&&◌, ◌^◌, not, nat_lt}
+use Rattle.std.specs.Prelude.{◌&&◌, ◌==◌, ◌^◌, not}
 use Rattle.std.proofs.lemmas.Bool.{eqb-true}
-use Rattle.std.proofs.lemmas.Bool.Decides.{nat_tests}
 use Rattle.program_law.specs.Program.{Program}
 use Rattle.certificate_law.specs.declared.Node.{Node}
 use Rattle.certificate_law.specs.declared.Node.TheVariants as nodes
@@ -18,25 +17,16 @@ use Rattle.cert_text.specs.declared.items.Claim.{Claim}
 use Rattle.cert_text.specs.declared.items.Claim.TheVariants.{Optimal, Infeasible, Unbounded, NotConvex}
 use Rattle.cert_text.specs.declared.places.Place.{Place}
 use Rattle.cert_text.specs.declared.draft.Draft.{Draft}
-use Rattle.cert_text.specs.Places.{after, may_stand, is_ended, is_value, wants_node, start, IsCounted, HasRoom}
-use Rattle.cert_text.specs.Faults.{has_fields, Tests, first_of, tests, fault_of_word, line_fault, word_of, behind}
-use Rattle.cert_text.specs.Told.{item_with, item_of, with_item, with_w, with_y, on_last, blank, IsTreeDue}
+use Rattle.cert_text.specs.Grammar.{item_word, shape_of}
+use Rattle.cert_text.specs.Places.{after, may_stand, is_ended, start, IsCounted, HasRoom}
+use Rattle.cert_fields.specs.Fields.{behind, has_fields}
+use Rattle.cert_fields.specs.Names.{names_on}
+use Rattle.cert_text.specs.declared.grammar.Shape.{Shape}
+use Rattle.cert_text.specs.declared.grammar.Shape.TheVariants.{Bare, Number, Name, Entry}
+use Rattle.cert_text.specs.Faults.{Tests, first_of, bare_tests, number_tests, name_tests, entry_tests, shape_tests, fault_of_word, line_fault, word_of}
+use Rattle.cert_text.specs.Told.{found_in, item_with, item_of, with_item, with_w, with_y, on_last, blank, IsTreeDue}
 use Rattle.cert_text.specs.History.{IsTracked, Tracks, IsHeld}
-
-abbrev pub item_word : Item → CertificateWord
-item_word (items.Value v) = words.Value
-item_word (items.Point j v) = words.Point
-item_word (items.Ray j v) = words.Ray
-item_word (items.Direction j v) = words.Vector
-item_word (items.Square v) = words.Square
-item_word (items.Coef j v) = words.Coef
-item_word (items.Branch j k) = words.Branch
-item_word items.Bound = words.Bound
-item_word items.Farkas = words.Farkas
-item_word (items.Cross j) = words.Cross
-item_word (items.W j v) = words.W
-item_word (items.Y i v) = words.Y
-item_word items.End = words.End
+use Rattle.cert_text.proofs.Lands.{second_true, can, can_stand, is_wanted, lands, after_is, word_is}
 
 -- ---- a line without a fault may stand where it stands
 
@@ -53,38 +43,23 @@ both : (a b : Bool) → not (a && b) ≡ false → a ≡ true
 both true b e = refl
 both false b e = absurd cc
 
+shape_stands : (p : Program) (s : Place) (word : CertificateWord) (shape : Shape) (fields : List (List ℕ)) → first_of (shape_tests p s word shape fields) ≡ None → may_stand s word ≡ true
+shape_stands p s word Bare fields e = both (may_stand s word) (has_fields 0 fields) (none_first (bare_tests s word fields) e)
+shape_stands p s word (Number allowed) fields e = both (may_stand s word) (has_fields 1 fields) (none_first (number_tests s word allowed fields) e)
+shape_stands p s word (Name axis) fields e = both (may_stand s word) (has_fields 1 fields) (none_first (name_tests s word (names_on p axis) fields) e)
+shape_stands p s word (Entry axis allowed) fields e = both (may_stand s word) (has_fields 2 fields) (none_first (entry_tests s word (names_on p axis) allowed fields) e)
+
 stands_with : (p : Program) (s : Place) (word : Option CertificateWord) (fields : List (List ℕ)) → fault_of_word p s word fields ≡ None → may_stand s (item_word (item_with p word fields)) ≡ true
 stands_with p s None fields e = absurd cc
-stands_with p s (Some words.Optimal) fields e = absurd cc
-stands_with p s (Some words.Infeasible) fields e = absurd cc
-stands_with p s (Some words.Unbounded) fields e = absurd cc
-stands_with p s (Some words.NotConvex) fields e = absurd cc
-stands_with p s (Some words.Value) fields e = both (may_stand s words.Value) (has_fields 1 fields) (none_first (tests p s words.Value fields) e)
-stands_with p s (Some words.Point) fields e = both (may_stand s words.Point) (has_fields 2 fields) (none_first (tests p s words.Point fields) e)
-stands_with p s (Some words.Ray) fields e = both (may_stand s words.Ray) (has_fields 2 fields) (none_first (tests p s words.Ray fields) e)
-stands_with p s (Some words.Vector) fields e = both (may_stand s words.Vector) (has_fields 2 fields) (none_first (tests p s words.Vector fields) e)
-stands_with p s (Some words.Square) fields e = both (may_stand s words.Square) (has_fields 1 fields) (none_first (tests p s words.Square fields) e)
-stands_with p s (Some words.Coef) fields e = both (may_stand s words.Coef) (has_fields 2 fields) (none_first (tests p s words.Coef fields) e)
-stands_with p s (Some words.Branch) fields e = both (may_stand s words.Branch) (has_fields 2 fields) (none_first (tests p s words.Branch fields) e)
-stands_with p s (Some words.Bound) fields e = both (may_stand s words.Bound) (has_fields 0 fields) (none_first (tests p s words.Bound fields) e)
-stands_with p s (Some words.Farkas) fields e = both (may_stand s words.Farkas) (has_fields 0 fields) (none_first (tests p s words.Farkas fields) e)
-stands_with p s (Some words.Cross) fields e = both (may_stand s words.Cross) (has_fields 1 fields) (none_first (tests p s words.Cross fields) e)
-stands_with p s (Some words.W) fields e = both (may_stand s words.W) (has_fields 2 fields) (none_first (tests p s words.W fields) e)
-stands_with p s (Some words.Y) fields e = both (may_stand s words.Y) (has_fields 2 fields) (none_first (tests p s words.Y fields) e)
-stands_with p s (Some words.End) fields e = both (may_stand s words.End) (has_fields 0 fields) (none_first (tests p s words.End fields) e)
+stands_with p s (Some word) fields e =
+    let stands = shape_stands p s word (shape_of word) fields e in
+    ap (may_stand s) (word_is s.claim s.part word (found_in p (shape_of word) fields) (can_stand s word stands)) ∙ stands
 
 pub stands : (p : Program) (s : Place) (parts : List (List ℕ)) → line_fault p s parts ≡ None → may_stand s (item_word (item_of p parts)) ≡ true
 unfolding line_fault item_of
 stands p s parts e = stands_with p s (word_of parts) (behind parts) e
 
 -- ---- the tree
-
-is_wanted : (s : Place) → wants_node s ≡ true → 0 < s.wanted
-is_wanted s e = above (nat_lt 0 s.wanted) (not (is_value s.part)) s.wanted refl e
-  where
-    above : (a b : Bool) (w : ℕ) → nat_lt 0 w ≡ a → (a && b) ≡ true → 0 < w
-    above true b w e f = grind (arith, nat_tests)
-    above false b w e f = absurd cc
 
 branch_more : (j : ℕ) (k : ℤ) (w : ℕ) → 0 < w → with_node (nodes.Branch j k) (Some w) ≡ Some (w + 1)
 branch_more j k zero h = absurd (omega arith)
@@ -111,50 +86,38 @@ kept f same o (n ∷ []) = same n o
 kept f same o (n ∷ m ∷ ns) = kept f same (with_node n o) (m ∷ ns)
 
 same_w : (j : ℕ) (v : ℚ) (n : Node) (o : Option ℕ) → with_node (with_w j v n) o ≡ with_node n o
-same_w j v (nodes.Branch i k) o = refl
 same_w j v (nodes.Bound x y) None = refl
 same_w j v (nodes.Bound x y) (Some zero) = refl
 same_w j v (nodes.Bound x y) (Some (suc w)) = refl
-same_w j v (nodes.Farkas y) o = refl
-same_w j v (nodes.Cross i) o = refl
+same_w j v n o = refl
 
 same_y : (j : ℕ) (v : ℚ) (n : Node) (o : Option ℕ) → with_node (with_y j v n) o ≡ with_node n o
-same_y j v (nodes.Branch i k) o = refl
 same_y j v (nodes.Bound x y) None = refl
 same_y j v (nodes.Bound x y) (Some zero) = refl
 same_y j v (nodes.Bound x y) (Some (suc w)) = refl
 same_y j v (nodes.Farkas y) None = refl
 same_y j v (nodes.Farkas y) (Some zero) = refl
 same_y j v (nodes.Farkas y) (Some (suc w)) = refl
-same_y j v (nodes.Cross i) o = refl
+same_y j v n o = refl
 
 not_ended : (w : ℕ) → false ≡ true → w ≡ 0
 not_ended w e = absurd cc
 
-first_of_two : (a b : Bool) → (a && b) ≡ true → a ≡ true
-first_of_two true b e = refl
-first_of_two false b e = absurd cc
+-- one node more, where one subtree was wanted
+node_track : (s t : Place) (ns : List Node) (n : Node) (w : ℕ) → t.wanted ≡ w → is_ended t.part ≡ false → with_node n (Some s.wanted) ≡ Some w → IsTracked s ns → IsTracked t (ns ++ n ∷ [])
+node_track s t ns n w e f more h = record { wanted = one_node ns n s.wanted w h.wanted more ∙ ap (λ n. Some n) (sym e); done = λ g. absurd (cc (f, g)) }
 
-track : (columns rows : ℕ) (s : Place) (d : Draft) (item : Item) → may_stand s (item_word item) ≡ true → IsTracked s d.nodes → IsTracked (after s item) (with_item columns rows item d).nodes
-track c r s d (items.Value v) m t = record { wanted = t.wanted; done = not_ended s.wanted }
-track c r s d (items.Point j v) m t = record { wanted = t.wanted; done = not_ended s.wanted }
-track c r s d (items.Ray j v) m t = record { wanted = t.wanted; done = not_ended s.wanted }
-track c r s d (items.Direction j v) m t = record { wanted = t.wanted; done = not_ended s.wanted }
-track c r s d (items.Square v) m t = record { wanted = t.wanted; done = not_ended s.wanted }
-track c r s d (items.Coef j v) m t = record { wanted = t.wanted; done = not_ended s.wanted }
-track c r s d (items.Branch j k) m t =
-    record { wanted = one_node d.nodes (nodes.Branch j k) s.wanted (s.wanted + 1) t.wanted (branch_more j k s.wanted (is_wanted s m)); done = not_ended (s.wanted + 1) }
-track c r s d items.Bound m t =
-    record { wanted = one_node d.nodes (nodes.Bound (zeros c) (zeros r)) s.wanted (s.wanted - 1) t.wanted (bound_less (zeros c) (zeros r) s.wanted (is_wanted s (first_of_two (wants_node s) _ m))); done = not_ended (s.wanted - 1) }
-track c r s d items.Farkas m t =
-    record { wanted = one_node d.nodes (nodes.Farkas (zeros r)) s.wanted (s.wanted - 1) t.wanted (farkas_less (zeros r) s.wanted (is_wanted s m)); done = not_ended (s.wanted - 1) }
-track c r s d (items.Cross j) m t =
-    record { wanted = one_node d.nodes (nodes.Cross j) s.wanted (s.wanted - 1) t.wanted (cross_less j s.wanted (is_wanted s m)); done = not_ended (s.wanted - 1) }
+track : (columns rows : ℕ) (s : Place) (d : Draft) (item : Item) → may_stand s (item_word item) ≡ true → IsTracked s d.nodes → IsTracked (lands s item) (with_item columns rows item d).nodes
+track c r s d (items.Branch j k) m t = node_track s (lands s (items.Branch j k)) d.nodes (nodes.Branch j k) (s.wanted + 1) refl refl (branch_more j k s.wanted (is_wanted s words.Branch refl m)) t
+track c r s d items.Bound m t = node_track s (lands s items.Bound) d.nodes (nodes.Bound (zeros c) (zeros r)) (s.wanted - 1) refl refl (bound_less (zeros c) (zeros r) s.wanted (is_wanted s words.Bound refl m)) t
+track c r s d items.Farkas m t = node_track s (lands s items.Farkas) d.nodes (nodes.Farkas (zeros r)) (s.wanted - 1) refl refl (farkas_less (zeros r) s.wanted (is_wanted s words.Farkas refl m)) t
+track c r s d (items.Cross j) m t = node_track s (lands s (items.Cross j)) d.nodes (nodes.Cross j) (s.wanted - 1) refl refl (cross_less j s.wanted (is_wanted s words.Cross refl m)) t
 track c r s d (items.W j v) m t = record { wanted = kept (with_w j v) (same_w j v) (Some 1) d.nodes ∙ t.wanted; done = not_ended s.wanted }
 track c r s d (items.Y i v) m t = record { wanted = kept (with_y i v) (same_y i v) (Some 1) d.nodes ∙ t.wanted; done = not_ended s.wanted }
-track c r s d items.End m t = record { wanted = t.wanted; done = λ e. eqb-true s.wanted 0 m }
+track c r s d items.End m t = record { wanted = t.wanted; done = λ e. eqb-true s.wanted 0 (second_true (can s.claim s.part words.End) (s.wanted == 0) m) }
+track c r s d item m t = record { wanted = t.wanted; done = not_ended s.wanted }
 
-pub tracks : (claim : Claim) (columns rows : ℕ) (s : Place) (d : Draft) (item : Item) → may_stand s (item_word item) ≡ true → Tracks claim s d.nodes → Tracks claim (after s item) (with_item columns rows item d).nodes
+pub tracks : (claim : Claim) (columns rows : ℕ) (s : Place) (d : Draft) (item : Item) → may_stand s (item_word item) ≡ true → Tracks claim s d.nodes → Tracks claim (lands s item) (with_item columns rows item d).nodes
 tracks Optimal c r s d item m t = track c r s d item m t
 tracks Infeasible c r s d item m t = track c r s d item m t
 tracks Unbounded c r s d item m t = tt
@@ -169,19 +132,9 @@ is_tree NotConvex s ns t e = tt
 -- ---- the counts
 
 counts : (lines : ℕ) (s : Place) (item : Item) → IsCounted lines s → IsCounted (suc lines) (after s item)
-counts n s (items.Value v) h = record { wanted = omega arith; squares = omega arith; branches = omega arith }
-counts n s (items.Point j v) h = record { wanted = omega arith; squares = omega arith; branches = omega arith }
-counts n s (items.Ray j v) h = record { wanted = omega arith; squares = omega arith; branches = omega arith }
-counts n s (items.Direction j v) h = record { wanted = omega arith; squares = omega arith; branches = omega arith }
 counts n s (items.Square v) h = record { wanted = omega arith; squares = omega arith; branches = omega arith }
-counts n s (items.Coef j v) h = record { wanted = omega arith; squares = omega arith; branches = omega arith }
 counts n s (items.Branch j k) h = record { wanted = omega arith; squares = omega arith; branches = omega arith }
-counts n s items.Bound h = record { wanted = omega arith; squares = omega arith; branches = omega arith }
-counts n s items.Farkas h = record { wanted = omega arith; squares = omega arith; branches = omega arith }
-counts n s (items.Cross j) h = record { wanted = omega arith; squares = omega arith; branches = omega arith }
-counts n s (items.W j v) h = record { wanted = omega arith; squares = omega arith; branches = omega arith }
-counts n s (items.Y i v) h = record { wanted = omega arith; squares = omega arith; branches = omega arith }
-counts n s items.End h = record { wanted = omega arith; squares = omega arith; branches = omega arith }
+counts n s item h = record { wanted = omega arith; squares = omega arith; branches = omega arith }
 
 pub has_room : (lines : ℕ) (s : Place) → lines ≤ 2 ^ 62 → IsCounted lines s → HasRoom s
 has_room n s h k = record { wanted = omega (arith, k.wanted); squares = omega (arith, k.squares); branches = omega (arith, k.branches) }
@@ -190,9 +143,7 @@ has_room n s h k = record { wanted = omega (arith, k.wanted); squares = omega (a
 
 start_counted : (claim : Claim) → IsCounted 0 (start claim)
 start_counted Optimal = record { wanted = omega arith; squares = omega arith; branches = omega arith }
-start_counted Infeasible = record { wanted = omega arith; squares = omega arith; branches = omega arith }
-start_counted Unbounded = record { wanted = omega arith; squares = omega arith; branches = omega arith }
-start_counted NotConvex = record { wanted = omega arith; squares = omega arith; branches = omega arith }
+start_counted claim = record { wanted = omega arith; squares = omega arith; branches = omega arith }
 
 pub start_tracked : (claim : Claim) → Tracks claim (start claim) []
 start_tracked Optimal = record { wanted = refl; done = λ e. absurd cc }
@@ -211,14 +162,16 @@ pub held_more : (p : Program) (claim : Claim) (earlier : List Item) (s t : Place
     → t ≡ after s item → e ≡ with_item (length p.columns) (length p.rows) item d → IsHeld p claim (item_of p parts ∷ earlier) t e
 held_more p claim earlier s t d e parts item h none is place draft =
     let same = sym is in
-    let s' : t ≡ after s (item_of p parts) = place ∙ ap (after s) same in
-    let d' : e ≡ with_item (length p.columns) (length p.rows) (item_of p parts) d = draft ∙ ap (λ i. with_item (length p.columns) (length p.rows) i d) same in
+    let it = item_of p parts in
+    let may = stands p s parts none in
+    let s' : t ≡ after s it = place ∙ ap (after s) same in
+    let d' : e ≡ with_item (length p.columns) (length p.rows) it d = draft ∙ ap (λ i. with_item (length p.columns) (length p.rows) i d) same in
     let P : Place → Type 0 = λ s. IsCounted (suc (length earlier)) s in
     let Q : Place → Type 0 = λ s. Tracks claim s e.nodes in
-    let R : Draft → Type 0 = λ e. Tracks claim (after s (item_of p parts)) e.nodes in
+    let R : Draft → Type 0 = λ e. Tracks claim (lands s it) e.nodes in
     record {
-      place = s' ∙ ap (λ s. after s (item_of p parts)) h.place;
-      draft = d' ∙ ap (λ d. with_item (length p.columns) (length p.rows) (item_of p parts) d) h.draft;
-      counted = subst P (sym s') (counts (length earlier) s (item_of p parts) h.counted);
-      tracked = subst Q (sym s') (subst R (sym d') (tracks claim (length p.columns) (length p.rows) s d (item_of p parts) (stands p s parts none) h.tracked));
+      place = s' ∙ ap (λ s. after s it) h.place;
+      draft = d' ∙ ap (λ d. with_item (length p.columns) (length p.rows) it d) h.draft;
+      counted = subst P (sym s') (counts (length earlier) s it h.counted);
+      tracked = subst Q (sym (s' ∙ after_is s it may)) (subst R (sym d') (tracks claim (length p.columns) (length p.rows) s d it may h.tracked));
     }

@@ -9,14 +9,15 @@ use Rattle.program_law.specs.Program.{Program}
 use Rattle.program_law.specs.Tests.{is_zero, is_positive}
 use Rattle.mps_tokens.specs.declared.words.CertificateWord.{CertificateWord}
 use Rattle.mps_tokens.specs.declared.words.CertificateWord.TheVariants as words
-use Rattle.cert_text.specs.declared.names.Axis.{Axis}
-use Rattle.cert_text.specs.declared.names.Axis.TheVariants.{Columns, Rows}
+use Rattle.cert_fields.specs.declared.names.Axis.{Axis}
+use Rattle.cert_fields.specs.declared.names.Axis.TheVariants.{Columns, Rows}
 use Rattle.cert_text.specs.declared.items.Item.{Item}
 use Rattle.cert_text.specs.declared.items.Item.TheVariants as items
 use Rattle.cert_text.specs.declared.places.Place.{Place}
-use Rattle.cert_text.specs.Text.{names_on, count_on, name_at}
+use Rattle.cert_fields.specs.Names.{names_on, count_on, name_at}
+use Rattle.cert_text.specs.Grammar.{item_word}
 use Rattle.cert_text.specs.Places.{may_stand, least}
-use Rattle.cert_text.specs.Faults.{is_filled}
+use Rattle.cert_fields.specs.Fields.{is_filled}
 
 abbrev pub column_at : Program → ℕ → List ℕ
 column_at p j = name_at (names_on p Columns) j
@@ -63,3 +64,13 @@ Accepted p s items.End = may_stand s words.End ≡ true
 pub record HasNames (p : Program) : Type 0 where
   pub distinct : (axis : Axis) → AllPairs (λ a b. a ≢ b) (names_on p axis)
   pub filled : (axis : Axis) (j : ℕ) → j < count_on p axis → is_filled (name_at (names_on p axis) j) ≡ true
+
+pub accepted_stands : (p : Program) (s : Place) (item : Item) → Accepted p s item → may_stand s (item_word item) ≡ true
+accepted_stands p s (items.Value v) a = a.0
+accepted_stands p s (items.Square v) a = a.0
+accepted_stands p s (items.Branch j k) a = a.0
+accepted_stands p s items.Bound a = a
+accepted_stands p s items.Farkas a = a
+accepted_stands p s (items.Cross j) a = a.0
+accepted_stands p s items.End a = a
+accepted_stands p s item a = a.stands

@@ -12,7 +12,7 @@ use Rattle.program_law.specs.Changes.{zeros}
 use Rattle.program_law.specs.declared.Square.{Square}
 use Rattle.certificate_law.specs.declared.Node.{Node}
 use Rattle.certificate_law.specs.declared.Node.TheVariants as nodes
-use Rattle.check_law.specs.Fits.{FitsNode}
+use Rattle.cert_check_law.specs.Fits.{FitsNode}
 use Rattle.cert_text.specs.declared.items.Item.{Item}
 use Rattle.cert_text.specs.declared.items.Item.TheVariants as items
 use Rattle.cert_text.specs.declared.draft.Draft.{Draft}

@@ -18,19 +18,21 @@ use Rattle.mps_tokens.specs.declared.words.CertificateWord.{CertificateWord}
 use Rattle.mps_tokens.specs.declared.words.CertificateWord.TheVariants as words
 use Rattle.mps_tokens.specs.Words.{certificate_word_names}
 use Rattle.mps_tokens.specs.Cases.{named}
-use Rattle.cert_text.specs.declared.names.Axis.{Axis}
-use Rattle.cert_text.specs.declared.names.Axis.TheVariants.{Columns, Rows}
-use Rattle.cert_text.specs.declared.fields.Allowed.{Allowed}
-use Rattle.cert_text.specs.declared.fields.Allowed.TheVariants.{Any, NotZero, Positive, Whole}
+use Rattle.cert_fields.specs.declared.names.Axis.{Axis}
+use Rattle.cert_fields.specs.declared.names.Axis.TheVariants.{Columns, Rows}
+use Rattle.cert_text.specs.declared.grammar.Allowed.{Allowed}
+use Rattle.cert_text.specs.declared.grammar.Allowed.TheVariants.{Any, NotZero, Positive, Whole}
 use Rattle.cert_text.specs.declared.items.Item.{Item}
 use Rattle.cert_text.specs.declared.places.Place.{Place}
-use Rattle.cert_text.specs.Numbers.{number_of}
-use Rattle.cert_text.specs.Text.{names_on, count_on, name_at}
+use Rattle.cert_fields.specs.Numbers.{number_of}
+use Rattle.cert_fields.specs.Fields.{field, has_fields, is_filled}
+use Rattle.cert_fields.specs.Names.{names_on, count_on, name_at}
 use Rattle.cert_text.specs.Places.{may_stand, least, is_one_too_many}
-use Rattle.cert_text.specs.Faults.{has_fields, is_filled, Tests, first_of, field, allows, is_allowed, is_early, bare_tests, number_tests, name_tests, entry_tests, tests, fault_of_word, line_fault}
+use Rattle.cert_text.specs.Faults.{Tests, first_of, allows, is_allowed, is_early, bare_tests, number_tests, name_tests, entry_tests, tests, fault_of_word, line_fault}
 use Rattle.cert_text.specs.Told.{item_of, item_with, place, number}
-use Rattle.cert_text.proofs.NameLemmas.{count_names}
-use Rattle.cert_text.proofs.NumbersBack.{IsTextOf, number_back}
+use Rattle.cert_fields.proofs.NameLemmas.{count_names}
+use Rattle.cert_fields.proofs.NumbersBack.{IsTextOf, number_back}
+use Rattle.cert_text.proofs.Lands.{can, can_stand, is_claim_word, no_claim_word}
 use Rattle.cert_text.proofs.ItemFields.{fields_of, IsEntry, Accepted}
 
 -- ---- no test holds
@@ -254,11 +256,17 @@ entry_back p axis s word fs text e =
 whole_text : (v : ℚ) → (v.den == 1) ≡ true → text_of v ≡ signed_decimal v.num
 whole_text v e = rw e refl
 
+no_claim : (s : Place) (w : CertificateWord) (fs : List (List ℕ)) → is_claim_word w ≡ true → first_of (bare_tests s w fs) ≡ None → ⊥
+no_claim s w fs c e = clash (can s.claim s.part w) (can_stand s w (bare_back s w fs e).stands) (no_claim_word s.claim s.part w c)
+  where
+    clash : (b : Bool) → b ≡ true → b ≡ false → ⊥
+    clash b e f = cc
+
 with_word : (p : Program) (s : Place) (w : CertificateWord) (fs : List (List ℕ)) → first_of (tests p s w fs) ≡ None → IsBack p s (item_with p (Some w) fs) (word_text w ∷ fs)
-with_word p s words.Optimal fs e = absurd cc
-with_word p s words.Infeasible fs e = absurd cc
-with_word p s words.Unbounded fs e = absurd cc
-with_word p s words.NotConvex fs e = absurd cc
+with_word p s words.Optimal fs e = absurd (no_claim s words.Optimal fs refl e)
+with_word p s words.Infeasible fs e = absurd (no_claim s words.Infeasible fs refl e)
+with_word p s words.Unbounded fs e = absurd (no_claim s words.Unbounded fs refl e)
+with_word p s words.NotConvex fs e = absurd (no_claim s words.NotConvex fs refl e)
 with_word p s words.Value fs e =
     let h = number_tests_back s words.Value Any fs e in
     record { accepted = (h.stands, h.spelt.text.fits); fields_are = ap (λ (t : List ℕ). codes "VALUE" ∷ t ∷ []) h.spelt.text.text ∙ ap (λ (l : List (List ℕ)). codes "VALUE" ∷ l) (sym h.one) }

@@ -5,7 +5,7 @@ use Rattle.std.specs.Option.{option_map}
 use Rattle.std.specs.Fmt.{decimal, signed_decimal}
 use Rattle.std.proofs.lemmas.Fmt.{decimal_digit}
 use Rattle.std.proofs.lemmas.Bool.{ne_eqb}
-use Rattle.cert_text.proofs.NumberTexts.{decimal_plain}
+use Rattle.cert_fields.proofs.NumberTexts.{decimal_plain}
 use Rattle.std.specs.Str.{bytes_eq}
 use Rattle.std.proofs.lemmas.Bool.Decides.{nat_tests}
 use Rattle.std.proofs.lemmas.Slice.Eq.{bytes_eq-Decides}
@@ -18,20 +18,21 @@ use Rattle.program_law.specs.Places.{place_of}
 use Rattle.program_law.specs.Tests.{is_zero}
 use Rattle.mps_tokens.specs.declared.words.CertificateWord.{CertificateWord}
 use Rattle.mps_tokens.specs.declared.words.CertificateWord.TheVariants as words
-use Rattle.cert_text.specs.declared.names.Axis.{Axis}
-use Rattle.cert_text.specs.declared.names.Axis.TheVariants.{Columns, Rows}
-use Rattle.cert_text.specs.declared.fields.Allowed.{Allowed}
-use Rattle.cert_text.specs.declared.fields.Allowed.TheVariants.{Any, NotZero, Positive, Whole}
+use Rattle.cert_fields.specs.declared.names.Axis.{Axis}
+use Rattle.cert_fields.specs.declared.names.Axis.TheVariants.{Columns, Rows}
+use Rattle.cert_text.specs.declared.grammar.Allowed.{Allowed}
+use Rattle.cert_text.specs.declared.grammar.Allowed.TheVariants.{Any, NotZero, Positive, Whole}
 use Rattle.cert_text.specs.declared.items.Item.{Item}
 use Rattle.cert_text.specs.declared.items.Item.TheVariants as items
 use Rattle.cert_text.specs.declared.places.Place.{Place}
-use Rattle.cert_text.specs.Numbers.{number_of}
-use Rattle.cert_text.specs.Text.{names_on, count_on, name_at}
+use Rattle.cert_fields.specs.Numbers.{number_of}
+use Rattle.cert_fields.specs.Fields.{is_filled}
+use Rattle.cert_fields.specs.Names.{names_on, count_on, name_at}
 use Rattle.cert_text.specs.Places.{may_stand, least, is_one_too_many}
-use Rattle.cert_text.specs.Faults.{is_filled, first_of, number_tests, name_tests, entry_tests, allows, line_fault}
+use Rattle.cert_text.specs.Faults.{first_of, number_tests, name_tests, entry_tests, allows, line_fault}
 use Rattle.cert_text.specs.Told.{item_of, place, number}
-use Rattle.cert_text.proofs.NameLemmas.{count_names}
-use Rattle.cert_text.proofs.NumbersRead.{number_read, whole_read, small}
+use Rattle.cert_fields.proofs.NameLemmas.{count_names}
+use Rattle.cert_fields.proofs.NumbersRead.{number_read, whole_read, small}
 use Rattle.cert_text.proofs.ItemFields.{fields_of, IsEntry, Accepted, HasNames}
 
 -- ---- a name is found at its place

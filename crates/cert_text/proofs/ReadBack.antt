@@ -1,6 +1,6 @@
 -- The text of a certificate is read as that certificate.
 use Rattle.std.proofs.Common.{◌≡◌, ℕ, suc, ◌+◌, ◌≤◌, Bool, true, false, List, [], ◌∷◌, ◌++◌, length, map, drop, Some, Ok, refl, sym, ap, ◌∙◌, subst, arith, codes}
-use Rattle.std.specs.Prelude.{◌||◌, ◌==◌, if◌then◌else◌}
+use Rattle.std.specs.Prelude.{if◌then◌else◌}
 use Rattle.std.specs.List.{flat_map, AllByRecursion}
 use Rattle.std.proofs.Math.Nat.{le_refl}
 use Rattle.std.proofs.Math.Seq.{drop-cons}
@@ -15,33 +15,31 @@ use Rattle.certificate_law.specs.declared.Node.TheVariants as nodes
 use Rattle.certificate_law.specs.declared.Certificate.{Certificate}
 use Rattle.certificate_law.specs.declared.Certificate.TheVariants as certificates
 use Rattle.certificate_law.specs.Squares.{ArePositive}
-use Rattle.check_law.specs.Fits.{FitsNode, FitsTree, IsColumnVector}
+use Rattle.cert_check_law.specs.Fits.{FitsNode, FitsTree, IsColumnVector}
 use Rattle.mps_tokens.specs.declared.words.CertificateWord.TheVariants as words
-use Rattle.cert_text.specs.declared.names.Axis.{Axis}
-use Rattle.cert_text.specs.declared.names.Axis.TheVariants.{Columns, Rows}
+use Rattle.cert_fields.specs.declared.names.Axis.{Axis}
+use Rattle.cert_fields.specs.declared.names.Axis.TheVariants.{Columns, Rows}
 use Rattle.cert_text.specs.declared.items.Item.{Item}
 use Rattle.cert_text.specs.declared.items.Item.TheVariants as items
 use Rattle.cert_text.specs.declared.items.Claim.{Claim}
 use Rattle.cert_text.specs.declared.items.Claim.TheVariants.{Optimal, Infeasible, Unbounded, NotConvex}
-use Rattle.cert_text.specs.declared.places.Part.{Part}
-use Rattle.cert_text.specs.declared.places.Part.TheVariants as parts
 use Rattle.cert_text.specs.declared.places.Place.{Place}
-use Rattle.cert_text.specs.Text.{Lines, names_on, name_at, entry_lines, square_lines, node_lines, end_line, certificate_lines, line_text, lines_text, certificate_text}
-use Rattle.cert_text.specs.Places.{start, after, least, is_optimal, is_unbounded, is_value, is_points, is_rays, is_squares, is_directions, is_ended}
+use Rattle.cert_fields.specs.Names.{names_on, name_at}
+use Rattle.cert_fields.specs.Lines.{line_text}
+use Rattle.cert_text.specs.Text.{Lines, entry_lines, square_lines, node_lines, end_line, certificate_lines, lines_text, certificate_text}
+use Rattle.cert_text.specs.Places.{start, least, is_ended}
 use Rattle.cert_text.specs.Told.{blank, certificate_told}
 use Rattle.cert_text.specs.Reading.{Answer, claim_in, read_of}
 use Rattle.cert_text.specs.Writable.{IsWritable, NumbersFit, SquareFits, NodeFits, branch_count}
-use Rattle.cert_text.proofs.NameLemmas.{count_names}
+use Rattle.cert_fields.proofs.NameLemmas.{count_names}
+use Rattle.cert_text.proofs.Lands.{is_optimal, is_unbounded, can, lands, unended, point_square, point_ray, ray_square, ends_too, ray_least}
 use Rattle.cert_text.proofs.ItemFields.{fields_of}
 use Rattle.cert_text.proofs.TextsRead.{IsClear, Runs, after_all, tell_all, item_text, line_pieces, run_read}
-use Rattle.cert_text.proofs.ItemRuns.{entries, square_items, node_items, after_append, runs_append, entries_run, point_lists, ray_lists, in_rays, direction_lists, itself, IsGoodSquare, squares_run, IsReady, MayBound, nodes_run}
+use Rattle.cert_text.proofs.ItemRuns.{entries, square_items, node_items, after_append, runs_append, entries_run, point_lists, ray_lists, direction_lists, itself, IsGoodSquare, squares_run, MayBound, nodes_run}
 use Rattle.cert_text.proofs.ItemTells.{tell_append, tell_list, tell_squares, tell_nodes}
 use Rattle.cert_text.proofs.Readings.{claimed}
 
 -- ---- the items of a certificate
-
-end_items : List Item
-end_items = items.End ∷ []
 
 abbrev pub items_of : Certificate → List Item
 items_of (certificates.Optimal x v squares tree) =
@@ -143,111 +141,57 @@ lines_of_items p (i ∷ is) = ap (λ (t : List ℕ). item_text p i ++ t) (lines_
 
 -- ---- they are accepted to the end
 
-ray_least : (s : Place) → is_points s.part ≡ true → least s words.Ray ≤ 0
-ray_least s e = go s.part e
-  where
-    go : (part : Part) → is_points part ≡ true → (if is_rays part then s.next else 0) ≤ 0
-    go parts.Points e = le_refl 0
-    go parts.Rays e = absurd cc
-    go parts.Value e = absurd cc
-    go parts.Directions e = absurd cc
-    go parts.Squares e = absurd cc
-    go parts.Nodes e = absurd cc
-    go parts.LeafPoint e = absurd cc
-    go parts.Multipliers e = absurd cc
-    go parts.Ended e = absurd cc
-
-in_points : (part : Part) → is_points part ≡ true → in_rays part ≡ true
-in_points part e = rw e refl
-
-record Finishes (p : Program) (s : Place) (is : List Item) : Type 0 where
-  runs : Runs p s is
-  ends : is_ended (after_all s is).part ≡ true
+pub record Finishes (p : Program) (s : Place) (is : List Item) : Type 0 where
+  pub runs : Runs p s is
+  pub ends : is_ended (after_all s is).part ≡ true
 
 finish_then : (p : Program) (s : Place) (xs ys : List Item) → Runs p s xs → Finishes p (after_all s xs) ys → Finishes p s (xs ++ ys)
 finish_then p s xs ys a b = record { runs = runs_append p s xs ys a b.runs; ends = ap (λ (s : Place). is_ended s.part) (after_append s xs ys) ∙ b.ends }
 
-finish_end : (p : Program) (s : Place) → s.wanted ≡ 0 → is_ended s.part ≡ false → Finishes p s (items.End ∷ [])
-finish_end p s e f = record { runs = (f, ap (λ n. n == 0) e, tt); ends = refl }
-
-points_stand : (part : Part) → is_points part ≡ true → (is_points part || (is_rays part || is_squares part)) ≡ true
-points_stand part e = rw e refl
-
-rays_squares : (part : Part) → in_rays part ≡ true → (is_points part || (is_rays part || is_squares part)) ≡ true
-rays_squares parts.Points e = refl
-rays_squares parts.Rays e = refl
-rays_squares parts.Value e = absurd cc
-rays_squares parts.Directions e = absurd cc
-rays_squares parts.Squares e = refl
-rays_squares parts.Nodes e = absurd cc
-rays_squares parts.LeafPoint e = absurd cc
-rays_squares parts.Multipliers e = absurd cc
-rays_squares parts.Ended e = absurd cc
-
-squares_ready : (part : Part) → (is_points part || (is_rays part || is_squares part)) ≡ true → (is_value part ≡ false) × (is_ended part ≡ false)
-squares_ready parts.Points e = (refl, refl)
-squares_ready parts.Rays e = (refl, refl)
-squares_ready parts.Squares e = (refl, refl)
-squares_ready parts.Value e = absurd cc
-squares_ready parts.Directions e = absurd cc
-squares_ready parts.Nodes e = absurd cc
-squares_ready parts.LeafPoint e = absurd cc
-squares_ready parts.Multipliers e = absurd cc
-squares_ready parts.Ended e = absurd cc
-
-directions_open : (part : Part) → is_directions part ≡ true → is_ended part ≡ false
-directions_open parts.Directions e = refl
-directions_open parts.Points e = refl
-directions_open parts.Rays e = refl
-directions_open parts.Squares e = refl
-directions_open parts.Value e = refl
-directions_open parts.Nodes e = refl
-directions_open parts.LeafPoint e = refl
-directions_open parts.Multipliers e = refl
-directions_open parts.Ended e = absurd cc
+finish_end : (p : Program) (s : Place) → s.wanted ≡ 0 → can s.claim s.part words.End ≡ true → Finishes p s (items.End ∷ [])
+finish_end p s e f = record { runs = (unended s.claim s.part words.End f, rw (f, e) refl, tt); ends = refl }
 
 good_squares : (p : Program) (qs : List Square) → ArePositive qs → AllByRecursion (λ q. IsColumnVector p q.coef) qs → AllByRecursion SquareFits qs → AllByRecursion (IsGoodSquare p) qs
 good_squares p [] a b c = tt
 good_squares p (q ∷ qs) a b c = (record { weight = c.0.0; positive = above_positive q.weight a.0; width = b.0; entries_fit = c.0.1 }, good_squares p qs a.1 b.1 c.1)
 
-nodes_end : (p : Program) (s : Place) (tree : List Node) → s.wanted ≡ 1 → s.branches ≡ 0 → IsReady s → FitsTree p tree → branch_count tree ≤ 20256 → AllByRecursion NodeFits tree → MayBound (is_optimal s.claim) tree → Finishes p s (flat_map node_items tree ++ items.End ∷ [])
-nodes_end p s tree w z ready fit few good b =
+tree_end : (p : Program) (s : Place) (tree : List Node) → s.wanted ≡ 1 → s.branches ≡ 0 → can s.claim s.part words.End ≡ true → FitsTree p tree → branch_count tree ≤ 20256 → AllByRecursion NodeFits tree → MayBound (is_optimal s.claim) tree → Finishes p s (flat_map node_items tree ++ items.End ∷ [])
+tree_end p s tree w z ready fit few good b =
     let run = nodes_run p s tree 1 w fit.tree ready (omega (arith, z, few)) fit.nodes_fit good b in
-    finish_then p s (flat_map node_items tree) (items.End ∷ []) run.0 (finish_end p (after_all s (flat_map node_items tree)) run.1.wanted run.1.unended)
+    finish_then p s (flat_map node_items tree) (items.End ∷ []) run.0 (finish_end p (after_all s (flat_map node_items tree)) run.1.wanted run.1.ends)
 
 finishes : (p : Program) (c : Certificate) → IsWritable p c → NumbersFit c → Finishes p (start (claim_of c)) (items_of c)
 finishes p (certificates.Optimal x v squares tree) h fit =
-    let s = after (start Optimal) (items.Value v) in
-    let points = entries_run p s words.Point Columns items.Point is_points (point_lists p s) s 0 x (itself s is_points refl) (le_refl 0) (omega (arith, h.fitting.0)) fit.0 in
+    let s = lands (start Optimal) (items.Value v) in
+    let points = entries_run p s words.Point Columns items.Point (point_lists p) s 0 x (itself s words.Point refl) (le_refl 0) (omega (arith, h.fitting.0)) fit.0 in
     let t = after_all s (entries items.Point 0 x) in
-    let below = squares_run p t squares (points_stand t.part points.1.part) (omega (arith, points.1.squares, h.few_squares)) (good_squares p squares h.fitting.1.positive h.fitting.1.widths fit.2) in
+    let below = squares_run p t squares (point_square t.claim t.part points.1.stands) (omega (arith, points.1.squares, h.few_squares)) (good_squares p squares h.fitting.1.positive h.fitting.1.widths fit.2) in
     let u = after_all t (flat_map square_items squares) in
-    let ready = squares_ready u.part below.1.stands in
-    let optimal : is_optimal u.claim ≡ true = ap is_optimal (below.1.kept.claim ∙ points.1.claim) in
-    let rest = nodes_end p u tree (below.1.kept.wanted ∙ points.1.wanted) (below.1.kept.branches ∙ points.1.branches) (record { past_value = ready.0; unended = ready.1 }) h.fitting.2 h.few_branches fit.3
-    (subst (λ b. MayBound b tree) (sym optimal) tt) in
+    let optimal : is_optimal u.claim ≡ true = ap is_optimal (below.1.claim ∙ points.1.claim) in
+    let rest = tree_end p u tree (below.1.wanted ∙ points.1.wanted) (below.1.branches ∙ points.1.branches) (ends_too u.claim u.part words.Square refl below.1.stands) h.fitting.2 h.few_branches fit.3 (subst (λ b. MayBound b tree) (sym optimal) tt) in
     let more = finish_then p s (entries items.Point 0 x) (flat_map square_items squares ++ (flat_map node_items tree ++ items.End ∷ [])) points.0
     (finish_then p t (flat_map square_items squares) (flat_map node_items tree ++ items.End ∷ []) below.0 rest) in
     record { runs = (refl, (refl, fit.1), more.runs); ends = more.ends }
-finishes p (certificates.Infeasible tree) h fit = nodes_end p (start Infeasible) tree refl refl (record { past_value = refl; unended = refl }) h.fitting.0 h.few_branches fit h.fitting.1
+finishes p (certificates.Infeasible tree) h fit = tree_end p (start Infeasible) tree refl refl refl h.fitting.0 h.few_branches fit h.fitting.1
 finishes p (certificates.Unbounded x d squares) h fit =
     let s = start Unbounded in
-    let points = entries_run p s words.Point Columns items.Point is_points (point_lists p s) s 0 x (itself s is_points refl) (le_refl 0) (omega (arith, h.fitting.0)) fit.0 in
+    let points = entries_run p s words.Point Columns items.Point (point_lists p) s 0 x (itself s words.Point refl) (le_refl 0) (omega (arith, h.fitting.0)) fit.0 in
     let t = after_all s (entries items.Point 0 x) in
-    let low : least t words.Ray ≤ 0 = ray_least t points.1.part in
-    let rays = entries_run p t words.Ray Columns items.Ray in_rays (ray_lists p t (ap is_unbounded points.1.claim)) t 0 d (itself t in_rays (in_points t.part points.1.part)) low (omega (arith, h.fitting.1)) fit.1 in
+    let low : least t words.Ray ≤ 0 = subst (λ (n : ℕ). n ≤ 0) (sym (ray_least t.claim t.part t.next points.1.stands)) (le_refl 0) in
+    let ray = point_ray t.claim t.part (ap is_unbounded points.1.claim) points.1.stands in
+    let rays = entries_run p t words.Ray Columns items.Ray (ray_lists p) t 0 d (itself t words.Ray ray) low (omega (arith, h.fitting.1)) fit.1 in
     let u = after_all t (entries items.Ray 0 d) in
     let count : u.squares ≡ 0 = rays.1.squares ∙ points.1.squares in
-    let below = squares_run p u squares (rays_squares u.part rays.1.part) (omega (arith, count, h.few_squares)) (good_squares p squares h.fitting.2.positive h.fitting.2.widths fit.2) in
+    let below = squares_run p u squares (ray_square u.claim u.part rays.1.stands) (omega (arith, count, h.few_squares)) (good_squares p squares h.fitting.2.positive h.fitting.2.widths fit.2) in
     let v = after_all u (flat_map square_items squares) in
-    let last = finish_end p v (below.1.kept.wanted ∙ rays.1.wanted ∙ points.1.wanted) (squares_ready v.part below.1.stands).1 in
+    let last = finish_end p v (below.1.wanted ∙ rays.1.wanted ∙ points.1.wanted) (ends_too v.claim v.part words.Square refl below.1.stands) in
     finish_then p s (entries items.Point 0 x) (entries items.Ray 0 d ++ (flat_map square_items squares ++ items.End ∷ [])) points.0
     (finish_then p t (entries items.Ray 0 d) (flat_map square_items squares ++ items.End ∷ []) rays.0 (finish_then p u (flat_map square_items squares) (items.End ∷ []) below.0 last))
 finishes p (certificates.NotConvex v) h fit =
     let s = start NotConvex in
-    let list = entries_run p s words.Vector Columns items.Direction is_directions (direction_lists p s) s 0 v (itself s is_directions refl) (le_refl 0) (omega (arith, h.fitting)) fit in
+    let list = entries_run p s words.Vector Columns items.Direction (direction_lists p) s 0 v (itself s words.Vector refl) (le_refl 0) (omega (arith, h.fitting)) fit in
     let t = after_all s (entries items.Direction 0 v) in
-    finish_then p s (entries items.Direction 0 v) (items.End ∷ []) list.0 (finish_end p t list.1.wanted (directions_open t.part list.1.part))
+    finish_then p s (entries items.Direction 0 v) (items.End ∷ []) list.0 (finish_end p t list.1.wanted (ends_too t.claim t.part words.Vector refl list.1.stands))
 
 -- ---- and tell it
 

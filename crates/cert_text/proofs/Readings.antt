@@ -1,6 +1,6 @@
 -- One line more, and the end of a text.
 use Rattle.std.proofs.Common.{◌≡◌, ℕ, ◌+◌, Bool, true, false, List, [], ◌∷◌, length, Some, None, Ok, Err, refl, sym, ap, ◌∙◌, arith}
-use Rattle.std.proofs.lemmas.Bool.{ne_eqb}
+use Rattle.std.proofs.lemmas.Bool.{eqb-true, ne_eqb}
 use Rattle.std.specs.Prelude.{◌==◌, ◌&&◌, if◌then◌else◌}
 use Rattle.std.specs.List.{onto_first}
 use Rattle.program_law.specs.Program.{Program}
@@ -11,13 +11,13 @@ use Rattle.cert_text.specs.declared.kinds.CertKind.{CertKind}
 use Rattle.cert_text.specs.declared.kinds.CertKind.TheVariants as kinds
 use Rattle.cert_text.specs.declared.places.Place.{Place}
 use Rattle.cert_text.specs.declared.draft.Draft.{Draft}
-use Rattle.cert_text.specs.Parts.{is_byte, pieces_of, parts_of}
+use Rattle.cert_fields.specs.Parts.{is_byte, pieces_of, parts_of}
 use Rattle.cert_text.specs.Places.{place_after, is_ended}
 use Rattle.cert_text.specs.Faults.{line_fault}
 use Rattle.cert_text.specs.Told.{item_of, told_by, certificate_told}
 use Rattle.cert_text.specs.Reading.{Answer, is_nil, fault_or, claim_in, read_on, read_of}
 use Rattle.cert_text.specs.History.{IsHeld}
-use Rattle.cert_text.proofs.Pieces.{HasFirst, split_has_first}
+use Rattle.cert_fields.proofs.Pieces.{HasFirst, split_has_first}
 
 -- whether it ends at the place after these items, by the place that is held
 ended : (p : Program) (claim : Claim) (earlier : List Item) (s : Place) (d : Draft) (b : Bool) → IsHeld p claim earlier s d → is_ended s.part ≡ b → is_ended (place_after claim earlier).part ≡ b
@@ -52,7 +52,7 @@ no_line p claim n earlier s d text whole h pieces e all =
 -- ---- behind END
 
 -- no byte is left
-abbrev is_last : List (List ℕ) → Bool
+abbrev pub is_last : List (List ℕ) → Bool
 is_last [] = false
 is_last (piece ∷ pieces) = is_nil pieces && (length piece == 0)
 
@@ -61,7 +61,7 @@ more_last b [] = ne_eqb (length (b ∷ [])) 0 (λ e. omega arith)
 more_last b (p ∷ []) = ne_eqb (length (b ∷ p)) 0 (λ e. omega arith)
 more_last b (p ∷ q ∷ ps) = refl
 
-not_last : (b : ℕ) (bs : List ℕ) → is_last (pieces_of (b ∷ bs)) ≡ false
+pub not_last : (b : ℕ) (bs : List ℕ) → is_last (pieces_of (b ∷ bs)) ≡ false
 not_last b bs = go (is_byte 10 b)
   where
     go : (t : Bool) → is_last (if t then [] ∷ pieces_of bs else onto_first b (pieces_of bs)) ≡ false
@@ -74,7 +74,7 @@ ends p claim n earlier s d text whole c h none e told all =
     let here : read_on p claim n earlier (pieces_of text) ≡ Ok (certificate_told claim (told_by p earlier)) = rw (none, ended p claim earlier s d true h e) refl in
     sym all ∙ here ∙ ap Ok (sym (told ∙ ap (certificate_told claim) h.draft))
 
-read_ended : (p : Program) (claim : Claim) (n : ℕ) (earlier : List Item) (pieces : List (List ℕ)) → is_ended (place_after claim earlier).part ≡ true → HasFirst pieces → is_last pieces ≡ false → read_on p claim n earlier pieces ≡ Err (n, kinds.CertAfter)
+pub read_ended : (p : Program) (claim : Claim) (n : ℕ) (earlier : List Item) (pieces : List (List ℕ)) → is_ended (place_after claim earlier).part ≡ true → HasFirst pieces → is_last pieces ≡ false → read_on p claim n earlier pieces ≡ Err (n, kinds.CertAfter)
 read_ended p claim n earlier [] e f last = absurd (none f.parts_are)
   where
     none : [] ≡ f.first ∷ f.others → ⊥
@@ -97,3 +97,7 @@ unclaimed p n line text rest pieces e = let f = split_has_first 10 rest in rw (p
 
 pub unbegun : (p : Program) (n : ℕ) (text : List ℕ) → pieces_of text ≡ text ∷ [] → read_of p n text ≡ Err (n, kinds.CertEnd)
 unbegun p n text pieces = rw pieces refl
+
+pub is_nothing : (text : List ℕ) → true ≡ (length text == 0) → text ≡ []
+is_nothing [] e = refl
+is_nothing (b ∷ bs) e = absurd (let n = eqb-true (length (b ∷ bs)) 0 (sym e) in omega (arith, n))

@@ -11,7 +11,7 @@ use Rattle.program_law.specs.Changes.{zeros}
 use Rattle.program_law.specs.declared.Square.{Square}
 use Rattle.certificate_law.specs.declared.Node.{Node}
 use Rattle.certificate_law.specs.declared.Node.TheVariants as nodes
-use Rattle.check_law.specs.Fits.{FitsNode}
+use Rattle.cert_check_law.specs.Fits.{FitsNode}
 use Rattle.cert_text.specs.declared.items.Item.{Item}
 use Rattle.cert_text.specs.declared.items.Item.TheVariants as items
 use Rattle.cert_text.specs.Told.{with_coef, with_w, with_y, on_last}
@@ -106,16 +106,13 @@ coef_put n j c v (q ∷ r ∷ qs) h le w lt some =
 -- ---- the last node
 
 abbrev W_open : ℕ → Node → Type 0
-W_open n (nodes.Branch j k) = ⊥
 W_open n (nodes.Bound w y) = ZeroFrom n w × AllZero y
-W_open n (nodes.Farkas y) = ⊥
-W_open n (nodes.Cross j) = ⊥
+W_open n node = ⊥
 
 abbrev Y_open : ℕ → Node → Type 0
-Y_open n (nodes.Branch j k) = ⊥
 Y_open n (nodes.Bound w y) = ZeroFrom n y
 Y_open n (nodes.Farkas y) = ZeroFrom n y
-Y_open n (nodes.Cross j) = ⊥
+Y_open n node = ⊥
 
 abbrev pub LastNode : (Node → Type 0) → List Node → Type 0
 LastNode P [] = ⊥
@@ -144,40 +141,32 @@ pub node_pushed : (ns : List Node) (n : Node) (i : Item) → node_items n ≡ i 
 node_pushed ns n i e = flat_map-append node_items ns (n ∷ []) ∙ ap (λ (l : List Item). flat_map node_items ns ++ (l ++ [])) e
 
 w_more : (p : Program) (k j : ℕ) (v : ℚ) → k ≤ j → j < length p.columns → is_zero v ≡ false → (n : Node) → W_open k n → FitsNode p n → node_items (with_w j v n) ≡ node_items n ++ items.W j v ∷ []
-w_more p k j v le lt some (nodes.Branch i o) h f = absurd h
 w_more p k j v le lt some (nodes.Bound w y) h f =
     let none = none_entries items.Y 0 y h.1 in
     ap (λ (l : List Item). items.Bound ∷ (entries items.W 0 (set w j v) ++ l)) none
     ∙ ap (λ (l : List Item). items.Bound ∷ l) (append-nil (entries items.W 0 (set w j v)) ∙ put_first items.W k j v w h.0 le (omega (arith, f.0, lt)) some)
     ∙ ap (λ (l : List Item). items.Bound ∷ (l ++ items.W j v ∷ [])) (sym (append-nil (entries items.W 0 w)) ∙ ap (λ (l : List Item). entries items.W 0 w ++ l) (sym none))
-w_more p k j v le lt some (nodes.Farkas y) h f = absurd h
-w_more p k j v le lt some (nodes.Cross i) h f = absurd h
+w_more p k j v le lt some n h f = absurd h
 
 w_open_more : (k j : ℕ) (v : ℚ) → k ≤ j → (n : Node) → W_open k n → W_open (suc j) (with_w j v n)
-w_open_more k j v le (nodes.Branch i o) h = h
 w_open_more k j v le (nodes.Bound w y) h = (put_zero k j v w h.0 le, h.1)
-w_open_more k j v le (nodes.Farkas y) h = h
-w_open_more k j v le (nodes.Cross i) h = h
+w_open_more k j v le n h = absurd h
 
 y_more : (p : Program) (k j : ℕ) (v : ℚ) → k ≤ j → j < length p.rows → is_zero v ≡ false → (n : Node) → Y_open k n → FitsNode p n → node_items (with_y j v n) ≡ node_items n ++ items.Y j v ∷ []
-y_more p k j v le lt some (nodes.Branch i o) h f = absurd h
 y_more p k j v le lt some (nodes.Bound w y) h f =
     ap (λ (l : List Item). items.Bound ∷ (entries items.W 0 w ++ l)) (put_first items.Y k j v y h le (omega (arith, f.1, lt)) some)
     ∙ ap (λ (l : List Item). items.Bound ∷ l) (sym (append_assoc (entries items.W 0 w) (entries items.Y 0 y) (items.Y j v ∷ [])))
 y_more p k j v le lt some (nodes.Farkas y) h f = ap (λ (l : List Item). items.Farkas ∷ l) (put_first items.Y k j v y h le (omega (arith, f, lt)) some)
-y_more p k j v le lt some (nodes.Cross i) h f = absurd h
+y_more p k j v le lt some n h f = absurd h
 
 y_open_more : (k j : ℕ) (v : ℚ) → k ≤ j → (n : Node) → Y_open k n → Y_open (suc j) (with_y j v n)
-y_open_more k j v le (nodes.Branch i o) h = h
 y_open_more k j v le (nodes.Bound w y) h = put_zero k j v y h le
 y_open_more k j v le (nodes.Farkas y) h = put_zero k j v y h le
-y_open_more k j v le (nodes.Cross i) h = h
+y_open_more k j v le n h = absurd h
 
 y_begun : (k : ℕ) (n : Node) → W_open k n → Y_open 0 n
-y_begun k (nodes.Branch i o) h = h
 y_begun k (nodes.Bound w y) h = h.1
-y_begun k (nodes.Farkas y) h = absurd h
-y_begun k (nodes.Cross i) h = h
+y_begun k n h = absurd h
 
 last_weaker : (P Q : Node → Type 0) → ((n : Node) → P n → Q n) → (ns : List Node) → LastNode P ns → LastNode Q ns
 last_weaker P Q g [] h = h

@@ -1,8 +1,6 @@
 -- The items that are accepted one after another are those of the certificate that they tell.
 use Rattle.std.proofs.Common.{◌≡◌, ℕ, suc, ◌+◌, ◌<◌, ◌≤◌, Bool, true, false, List, [], ◌∷◌, ◌++◌, length, set, refl, sym, ap, ◌∙◌, subst, arith, append_assoc, append-nil}
-use Rattle.std.specs.Prelude.{◌&&◌, ◌||◌, ◌==◌, not, nat_lt, if◌then◌else◌}
 use Rattle.std.specs.List.{flat_map}
-use Rattle.std.proofs.lemmas.Bool.{eqb-true}
 use Rattle.rational.specs.Rational.{ℚ}
 use Rattle.program_law.specs.Program.{Program}
 use Rattle.program_law.specs.Changes.{zeros}
@@ -13,15 +11,19 @@ use Rattle.cert_text.specs.declared.items.Item.{Item}
 use Rattle.cert_text.specs.declared.items.Item.TheVariants as items
 use Rattle.cert_text.specs.declared.items.Claim.{Claim}
 use Rattle.cert_text.specs.declared.items.Claim.TheVariants.{Optimal, Infeasible, Unbounded, NotConvex}
-use Rattle.cert_text.specs.declared.places.Part.{Part}
-use Rattle.cert_text.specs.declared.places.Part.TheVariants as parts
+use Rattle.cert_text.specs.declared.grammar.Part.{Part}
+use Rattle.cert_text.specs.declared.grammar.Part.TheVariants as parts
 use Rattle.cert_text.specs.declared.places.Place.{Place}
 use Rattle.cert_text.specs.declared.draft.Draft.{Draft}
-use Rattle.cert_text.specs.Places.{start, after, is_value, is_points, is_rays, is_directions, is_squares, is_leaf_point, is_multipliers, is_ended, is_optimal, is_unbounded, wants_node}
+use Rattle.cert_text.specs.Grammar.{item_word}
+use Rattle.cert_text.specs.Places.{start, may_stand, least, least_in, is_ended}
 use Rattle.cert_text.specs.Told.{blank, with_item, with_coef, with_w, with_y, on_last, certificate_told}
-use Rattle.cert_text.proofs.ItemFields.{Accepted}
+use Rattle.mps_tokens.specs.declared.words.CertificateWord.{CertificateWord}
+use Rattle.mps_tokens.specs.declared.words.CertificateWord.TheVariants as words
+use Rattle.cert_text.proofs.Lands.{is_optimal, is_unbounded, can, can_stand, is_wanted, lands, is_amid, is_value_word, is_node_word, part_of, is_ray_part, is_square_part, is_leaf_part, amid_part, value_part, point_part, ray_part, vector_part, square_part, coef_part, w_part, leaf_part}
+use Rattle.cert_text.proofs.ItemFields.{Accepted, accepted_stands}
 use Rattle.cert_text.proofs.TextsRead.{Runs, after_all, tell_all}
-use Rattle.cert_text.proofs.ItemRuns.{entries, square_items, node_items, in_leaf}
+use Rattle.cert_text.proofs.ItemRuns.{entries, square_items, node_items}
 use Rattle.cert_text.proofs.ReadBack.{items_of}
 use Rattle.cert_text.proofs.Accepts.{IsGood, good_more, good_start}
 use Rattle.cert_text.proofs.Shown.{AllZero, ZeroFrom, zeros_zero, none_entries, put_first, put_zero, LastCoef, coef_pushed, square_pushed, coef_zero, coef_put, LastW, LastY, w_put, y_put, w_next, y_next, w_to_y, bound_begun, farkas_begun, bound_pushed, farkas_pushed, node_pushed}
@@ -119,170 +121,62 @@ record AreUnused (claim : Claim) (d : Draft) : Type 0 where
   squares : has_points claim ≡ false → d.squares ≡ []
   nodes_are : has_nodes claim ≡ false → d.nodes ≡ []
 
-record IsShown (p : Program) (claim : Claim) (s : Place) (d : Draft) (done : List Item) : Type 0 where
-  good : IsGood p claim s d
+-- the words and what the next one may add to
+record IsTold (claim : Claim) (s : Place) (d : Draft) (done : List Item) : Type 0 where
   text : done ≡ shown claim s.part d
   opens : Opens s.part s.next d
+
+record IsShown (p : Program) (claim : Claim) (s : Place) (d : Draft) (done : List Item) : Type 0 where
+  good : IsGood p claim s d
+  told : IsTold claim s d done
   has : has_part claim s.part ≡ true
   idle : has_nodes claim ≡ false → s.wanted ≡ 0
-  due : is_value s.part ≡ true → s.wanted ≡ 1
   unused : AreUnused claim d
 
--- ---- the part, by its test
-
-value_is : (part : Part) → is_value part ≡ true → part ≡ parts.Value
-value_is parts.Value e = refl
-value_is parts.Points e = absurd cc
-value_is parts.Rays e = absurd cc
-value_is parts.Directions e = absurd cc
-value_is parts.Squares e = absurd cc
-value_is parts.Nodes e = absurd cc
-value_is parts.LeafPoint e = absurd cc
-value_is parts.Multipliers e = absurd cc
-value_is parts.Ended e = absurd cc
-
-points_is : (part : Part) → is_points part ≡ true → part ≡ parts.Points
-points_is parts.Points e = refl
-points_is parts.Value e = absurd cc
-points_is parts.Rays e = absurd cc
-points_is parts.Directions e = absurd cc
-points_is parts.Squares e = absurd cc
-points_is parts.Nodes e = absurd cc
-points_is parts.LeafPoint e = absurd cc
-points_is parts.Multipliers e = absurd cc
-points_is parts.Ended e = absurd cc
-
-directions_is : (part : Part) → is_directions part ≡ true → part ≡ parts.Directions
-directions_is parts.Directions e = refl
-directions_is parts.Value e = absurd cc
-directions_is parts.Points e = absurd cc
-directions_is parts.Rays e = absurd cc
-directions_is parts.Squares e = absurd cc
-directions_is parts.Nodes e = absurd cc
-directions_is parts.LeafPoint e = absurd cc
-directions_is parts.Multipliers e = absurd cc
-directions_is parts.Ended e = absurd cc
-
-squares_is : (part : Part) → is_squares part ≡ true → part ≡ parts.Squares
-squares_is parts.Squares e = refl
-squares_is parts.Value e = absurd cc
-squares_is parts.Points e = absurd cc
-squares_is parts.Rays e = absurd cc
-squares_is parts.Directions e = absurd cc
-squares_is parts.Nodes e = absurd cc
-squares_is parts.LeafPoint e = absurd cc
-squares_is parts.Multipliers e = absurd cc
-squares_is parts.Ended e = absurd cc
-
-leaf_is : (part : Part) → is_leaf_point part ≡ true → part ≡ parts.LeafPoint
-leaf_is parts.LeafPoint e = refl
-leaf_is parts.Value e = absurd cc
-leaf_is parts.Points e = absurd cc
-leaf_is parts.Rays e = absurd cc
-leaf_is parts.Directions e = absurd cc
-leaf_is parts.Squares e = absurd cc
-leaf_is parts.Nodes e = absurd cc
-leaf_is parts.Multipliers e = absurd cc
-leaf_is parts.Ended e = absurd cc
-
 -- ---- what holds where a line may stand
+
+by_claim : (claim : Claim) (s : Place) (word : CertificateWord) → s.claim ≡ claim → may_stand s word ≡ true → can claim s.part word ≡ true
+by_claim claim s word e m = subst (λ c. can c s.part word ≡ true) e (can_stand s word m)
 
 -- in the middle of a certificate
 record IsAmid (claim : Claim) (part : Part) (d : Draft) : Type 0 where
   text : shown claim part d ≡ first (is_optimal claim) d ++ body d
 
-record BeforeRay (claim : Claim) (part : Part) (n : ℕ) (d : Draft) : Type 0 where
-  amid : IsAmid claim part d
-  ray : ZeroFrom (if is_rays part then n else 0) d.ray
+amid_where : (claim : Claim) (part : Part) (d : Draft) → is_amid part ≡ true → IsAmid claim part d
+amid_where claim parts.Value d e = absurd cc
+amid_where claim parts.Ended d e = absurd cc
+amid_where claim part d e = record { text = refl }
+
+amid : (claim : Claim) (part : Part) (word : CertificateWord) (d : Draft) → is_value_word word ≡ false → can claim part word ≡ true → IsAmid claim part d
+amid claim part word d w e = amid_where claim part d (amid_part claim part word w e)
+
+record BeforeRay (part : Part) (n : ℕ) (d : Draft) : Type 0 where
+  ray : ZeroFrom (least_in words.Ray part n) d.ray
   direction : AllZero d.direction
   none : HasNone d
 
-before_ray : (claim : Claim) (part : Part) (n : ℕ) (d : Draft) → (is_rays part || (is_points part && is_unbounded claim)) ≡ true → Opens part n d → BeforeRay claim part n d
-before_ray claim parts.Points n d e h = record { amid = record { text = refl }; ray = h.ray; direction = h.direction; none = h.none }
-before_ray claim parts.Rays n d e h = record { amid = record { text = refl }; ray = h.ray; direction = h.direction; none = h.none }
-before_ray claim parts.Value n d e h = absurd cc
-before_ray claim parts.Directions n d e h = absurd cc
-before_ray claim parts.Squares n d e h = absurd cc
-before_ray claim parts.Nodes n d e h = absurd cc
-before_ray claim parts.LeafPoint n d e h = absurd cc
-before_ray claim parts.Multipliers n d e h = absurd cc
-before_ray claim parts.Ended n d e h = absurd cc
+before_ray : (part : Part) (n : ℕ) (d : Draft) → is_ray_part part ≡ true → Opens part n d → BeforeRay part n d
+before_ray parts.Points n d e h = record { ray = h.ray; direction = h.direction; none = h.none }
+before_ray parts.Rays n d e h = record { ray = h.ray; direction = h.direction; none = h.none }
+before_ray part n d e h = absurd cc
 
-ray_has : (claim : Claim) (part : Part) → (is_rays part || (is_points part && is_unbounded claim)) ≡ true → has_part claim part ≡ true → is_unbounded claim ≡ true
-ray_has claim parts.Points e h = e
-ray_has claim parts.Rays e h = h
-ray_has claim parts.Value e h = absurd cc
-ray_has claim parts.Directions e h = absurd cc
-ray_has claim parts.Squares e h = absurd cc
-ray_has claim parts.Nodes e h = absurd cc
-ray_has claim parts.LeafPoint e h = absurd cc
-ray_has claim parts.Multipliers e h = absurd cc
-ray_has claim parts.Ended e h = absurd cc
+no_nodes : (part : Part) (n : ℕ) (d : Draft) → is_square_part part ≡ true → Opens part n d → d.nodes ≡ []
+no_nodes parts.Points n d e h = h.none.nodes_are
+no_nodes parts.Rays n d e h = h.none.nodes_are
+no_nodes parts.Squares n d e h = h.nodes_are
+no_nodes part n d e h = absurd cc
 
-unbounded_points : (claim : Claim) → is_unbounded claim ≡ true → has_points claim ≡ true
-unbounded_points Unbounded e = refl
-unbounded_points Optimal e = refl
-unbounded_points Infeasible e = absurd cc
-unbounded_points NotConvex e = absurd cc
+before_y : (part : Part) (n : ℕ) (d : Draft) → is_leaf_part part ≡ true → Opens part n d → LastY (least_in words.Y part n) d.nodes
+before_y parts.LeafPoint n d e h = w_to_y n d.nodes h
+before_y parts.Multipliers n d e h = h
+before_y part n d e h = absurd cc
 
-record BeforeSquare (claim : Claim) (part : Part) (d : Draft) : Type 0 where
-  amid : IsAmid claim part d
-  nodes_are : d.nodes ≡ []
-  has : has_points claim ≡ true
-
-before_square : (claim : Claim) (part : Part) (n : ℕ) (d : Draft) → (is_points part || (is_rays part || is_squares part)) ≡ true → has_part claim part ≡ true → Opens part n d → BeforeSquare claim part d
-before_square claim parts.Points n d e b h = record { amid = record { text = refl }; nodes_are = h.none.nodes_are; has = b }
-before_square claim parts.Rays n d e b h = record { amid = record { text = refl }; nodes_are = h.none.nodes_are; has = unbounded_points claim b }
-before_square claim parts.Squares n d e b h = record { amid = record { text = refl }; nodes_are = h.nodes_are; has = b }
-before_square claim parts.Value n d e b h = absurd cc
-before_square claim parts.Directions n d e b h = absurd cc
-before_square claim parts.Nodes n d e b h = absurd cc
-before_square claim parts.LeafPoint n d e b h = absurd cc
-before_square claim parts.Multipliers n d e b h = absurd cc
-before_square claim parts.Ended n d e b h = absurd cc
-
-before_node : (claim : Claim) (part : Part) (d : Draft) → is_value part ≡ false → is_ended part ≡ false → IsAmid claim part d
-before_node claim parts.Points d e f = record { text = refl }
-before_node claim parts.Rays d e f = record { text = refl }
-before_node claim parts.Squares d e f = record { text = refl }
-before_node claim parts.Directions d e f = record { text = refl }
-before_node claim parts.Nodes d e f = record { text = refl }
-before_node claim parts.LeafPoint d e f = record { text = refl }
-before_node claim parts.Multipliers d e f = record { text = refl }
-before_node claim parts.Value d e f = absurd cc
-before_node claim parts.Ended d e f = absurd cc
-
-record BeforeY (claim : Claim) (part : Part) (n : ℕ) (d : Draft) : Type 0 where
-  amid : IsAmid claim part d
-  last : LastY (if is_multipliers part then n else 0) d.nodes
-  has : has_nodes claim ≡ true
-
-before_y : (claim : Claim) (part : Part) (n : ℕ) (d : Draft) → in_leaf part ≡ true → has_part claim part ≡ true → Opens part n d → BeforeY claim part n d
-before_y claim parts.LeafPoint n d e b h = record { amid = record { text = refl }; last = w_to_y n d.nodes h; has = b }
-before_y claim parts.Multipliers n d e b h = record { amid = record { text = refl }; last = h; has = b }
-before_y claim parts.Points n d e b h = absurd cc
-before_y claim parts.Rays n d e b h = absurd cc
-before_y claim parts.Squares n d e b h = absurd cc
-before_y claim parts.Directions n d e b h = absurd cc
-before_y claim parts.Nodes n d e b h = absurd cc
-before_y claim parts.Value n d e b h = absurd cc
-before_y claim parts.Ended n d e b h = absurd cc
-
-wanted_has : (claim : Claim) (s : Place) → wants_node s ≡ true → (has_nodes claim ≡ false → s.wanted ≡ 0) → (has_nodes claim ≡ true) × (is_value s.part ≡ false)
-wanted_has claim s e idle = go (nat_lt 0 s.wanted) (is_value s.part) (has_nodes claim) refl refl refl e
+wanted_has : (claim : Claim) (w : ℕ) → 0 < w → (has_nodes claim ≡ false → w ≡ 0) → has_nodes claim ≡ true
+wanted_has claim w p idle = go (has_nodes claim) refl
   where
-    positive : (w : ℕ) → nat_lt 0 w ≡ true → w ≡ 0 → ⊥
-    positive w e z = absurd (let bad : nat_lt 0 0 ≡ true = subst (λ w. nat_lt 0 w ≡ true) z e in cc)
-
-    go : (a b c : Bool) → nat_lt 0 s.wanted ≡ a → is_value s.part ≡ b → has_nodes claim ≡ c → (a && not b) ≡ true → (has_nodes claim ≡ true) × (is_value s.part ≡ false)
-    go true false true f g h e = (h, g)
-    go true false false f g h e = absurd (positive s.wanted f (idle h))
-    go true true c f g h e = absurd cc
-    go false b c f g h e = absurd cc
-
-first_true : (a b : Bool) → (a && b) ≡ true → a ≡ true
-first_true true b e = refl
-first_true false b e = absurd cc
+    go : (b : Bool) → has_nodes claim ≡ b → b ≡ true
+    go true e = refl
+    go false e = absurd (let none = idle e in omega (arith, p, none))
 
 -- ---- one item more at the end
 
@@ -344,15 +238,6 @@ same_first false d e h = refl
 clash : {A : Type 0} (b : Bool) → b ≡ true → b ≡ false → A
 clash b e f = absurd cc
 
-not_value : {A : Type 0} → false ≡ true → A
-not_value e = absurd cc
-
-optimal_points : (claim : Claim) → is_optimal claim ≡ true → has_points claim ≡ true
-optimal_points Optimal e = refl
-optimal_points Unbounded e = refl
-optimal_points Infeasible e = absurd cc
-optimal_points NotConvex e = absurd cc
-
 zero_next : (n j : ℕ) (v : ℚ) (vs : List ℚ) → ZeroFrom n vs → n ≤ j → ZeroFrom (j + 1) (set vs j v)
 zero_next n j v vs z le = let e : suc j ≡ j + 1 = omega arith in subst (λ k. ZeroFrom k (set vs j v)) e (put_zero n j v vs z le)
 
@@ -369,215 +254,192 @@ value_text : (claim : Claim) (d e : Draft) (v : ℚ) (done : List Item) → done
 value_text claim d e v done none optimal value empty =
     ap (λ (l : List Item). l ++ items.Value v ∷ []) none ∙ sym (ap (λ b. first b e ++ body e) optimal ∙ ap (λ (l : List Item). items.Value e.value ∷ l) empty ∙ ap (λ v. items.Value v ∷ []) value)
 
-not_due : (s : Place) → (is_value s.part ≡ true → s.wanted ≡ 1) → (s.wanted == 0) ≡ true → is_value s.part ≡ false
-not_due s due e = go (is_value s.part) refl
-  where
-    go : (b : Bool) → is_value s.part ≡ b → b ≡ false
-    go false f = refl
-    go true f = absurd (let one = due f in let none = eqb-true s.wanted 0 e in omega (arith, one, none))
-
-shown_more : (p : Program) (claim : Claim) (s : Place) (d : Draft) (done : List Item) (item : Item) → is_ended s.part ≡ false → Accepted p s item → IsShown p claim s d done
-    → IsShown p claim (after s item) (with_item (length p.columns) (length p.rows) item d) (done ++ item ∷ [])
-shown_more p claim s d done (items.Value v) unended a h =
-    let e = value_is s.part a.0 in
-    let empty : IsEmpty d = subst (λ part. Opens part s.next d) e h.opens in
+told_more : (p : Program) (claim : Claim) (s : Place) (d : Draft) (done : List Item) (item : Item) → Accepted p s item → IsShown p claim s d done
+    → IsTold claim (lands s item) (with_item (length p.columns) (length p.rows) item d) (done ++ item ∷ [])
+told_more p claim s d done (items.Value v) a h =
+    let e = value_part claim s.part (by_claim claim s words.Value h.good.claim_is a.0) in
+    let empty : IsEmpty d = subst (λ part. Opens part s.next d) e h.told.opens in
     let optimal : is_optimal claim ≡ true = subst (λ part. has_part claim part ≡ true) e h.has in
-    let none : done ≡ [] = subst (λ part. done ≡ shown claim part d) e h.text in
+    let none : done ≡ [] = subst (λ part. done ≡ shown claim part d) e h.told.text in
     let new = record d { value = v } in
     record {
-      good = good_more p claim s d (items.Value v) a h.good;
       text = value_text claim d new v done none optimal refl (body_none d empty);
       opens = record { point = empty.point; ray = empty.ray; direction = empty.direction; none = record { squares = empty.none.squares; nodes_are = empty.none.nodes_are } };
-      has = optimal_points claim optimal;
-      idle = h.idle;
-      due = not_value;
-      unused = record { point = h.unused.point; ray = h.unused.ray; direction = h.unused.direction; squares = h.unused.squares; nodes_are = h.unused.nodes_are };
     }
-shown_more p claim s d done (items.Point j v) unended a h =
-    let e = points_is s.part a.stands in
-    let o : AtPoints s.next d = subst (λ part. Opens part s.next d) e h.opens in
-    let has : has_points claim ≡ true = subst (λ part. has_part claim part ≡ true) e h.has in
+told_more p claim s d done (items.Point j v) a h =
+    let may = by_claim claim s words.Point h.good.claim_is a.stands in
+    let e = point_part claim s.part may in
+    let o : AtPoints s.next d = subst (λ part. Opens part s.next d) e h.told.opens in
     let new = record d { point = set d.point j v } in
     let inside : j < length d.point = omega (arith, a.inside, h.good.vectors.point) in
     record {
-      good = good_more p claim s d (items.Point j v) a h.good;
-      text = one_item claim s.part d new done (items.Point j v) h.text (before_node claim s.part d (ap is_value e) unended) (same_first (is_optimal claim) d new refl)
+      text = one_item claim s.part d new done (items.Point j v) h.told.text (amid claim s.part words.Point d refl may) (same_first (is_optimal claim) d new refl)
           (points_body d (set d.point j v) (items.Point j v) (put_first items.Point s.next j v d.point o.point a.late inside a.some) o.ray o.direction o.none);
       opens = record { point = zero_next s.next j v d.point o.point a.late; ray = o.ray; direction = o.direction; none = record { squares = o.none.squares; nodes_are = o.none.nodes_are } };
-      has = has;
-      idle = h.idle;
-      due = not_value;
-      unused = record { point = λ f. clash (has_points claim) has f; ray = h.unused.ray; direction = h.unused.direction; squares = h.unused.squares; nodes_are = h.unused.nodes_are };
     }
-shown_more p claim s d done (items.Ray j v) unended a h =
-    let stands = subst (λ c. (is_rays s.part || (is_points s.part && is_unbounded c)) ≡ true) h.good.claim_is a.stands in
-    let b = before_ray claim s.part s.next d stands h.opens in
-    let has = ray_has claim s.part stands h.has in
+told_more p claim s d done (items.Ray j v) a h =
+    let may = by_claim claim s words.Ray h.good.claim_is a.stands in
+    let b = before_ray s.part s.next d (ray_part claim s.part may) h.told.opens in
     let new = record d { ray = set d.ray j v } in
-    let low = if is_rays s.part then s.next else 0 in
+    let low = least s words.Ray in
     let inside : j < length d.ray = omega (arith, a.inside, h.good.vectors.ray) in
     record {
-      good = good_more p claim s d (items.Ray j v) a h.good;
-      text = one_item claim s.part d new done (items.Ray j v) h.text b.amid (same_first (is_optimal claim) d new refl)
+      text = one_item claim s.part d new done (items.Ray j v) h.told.text (amid claim s.part words.Ray d refl may) (same_first (is_optimal claim) d new refl)
           (rays_body d (set d.ray j v) (items.Ray j v) (put_first items.Ray low j v d.ray b.ray a.late inside a.some) b.direction b.none);
       opens = record { ray = zero_next low j v d.ray b.ray a.late; direction = b.direction; none = record { squares = b.none.squares; nodes_are = b.none.nodes_are } };
-      has = has;
-      idle = h.idle;
-      due = not_value;
-      unused = record { point = h.unused.point; ray = λ f. clash (is_unbounded claim) has f; direction = h.unused.direction; squares = h.unused.squares; nodes_are = h.unused.nodes_are };
     }
-shown_more p claim s d done (items.Direction j v) unended a h =
-    let e = directions_is s.part a.stands in
-    let o : AtDirections s.next d = subst (λ part. Opens part s.next d) e h.opens in
-    let has : has_directions claim ≡ true = subst (λ part. has_part claim part ≡ true) e h.has in
+told_more p claim s d done (items.Direction j v) a h =
+    let may = by_claim claim s words.Vector h.good.claim_is a.stands in
+    let e = vector_part claim s.part may in
+    let o : AtDirections s.next d = subst (λ part. Opens part s.next d) e h.told.opens in
     let new = record d { direction = set d.direction j v } in
     let inside : j < length d.direction = omega (arith, a.inside, h.good.vectors.direction) in
     record {
-      good = good_more p claim s d (items.Direction j v) a h.good;
-      text = one_item claim s.part d new done (items.Direction j v) h.text (before_node claim s.part d (ap is_value e) unended) (same_first (is_optimal claim) d new refl)
+      text = one_item claim s.part d new done (items.Direction j v) h.told.text (amid claim s.part words.Vector d refl may) (same_first (is_optimal claim) d new refl)
           (directions_body d (set d.direction j v) (items.Direction j v) (put_first items.Direction s.next j v d.direction o.direction a.late inside a.some) o.none);
       opens = record { direction = zero_next s.next j v d.direction o.direction a.late; none = record { squares = o.none.squares; nodes_are = o.none.nodes_are } };
-      has = has;
-      idle = h.idle;
-      due = not_value;
-      unused = record { point = h.unused.point; ray = h.unused.ray; direction = λ f. clash (has_directions claim) has f; squares = h.unused.squares; nodes_are = h.unused.nodes_are };
     }
-shown_more p claim s d done (items.Square v) unended a h =
-    let b = before_square claim s.part s.next d a.0 h.has h.opens in
+told_more p claim s d done (items.Square v) a h =
+    let may = by_claim claim s words.Square h.good.claim_is a.0 in
+    let part = square_part claim s.part may in
+    let none = no_nodes s.part s.next d part h.told.opens in
     let q : Square = record { weight = v; coef = zeros (length p.columns) } in
     let new = record d { squares = d.squares ++ q ∷ [] } in
     record {
-      good = good_more p claim s d (items.Square v) a h.good;
-      text = one_item claim s.part d new done (items.Square v) h.text b.amid (same_first (is_optimal claim) d new refl)
-          (squares_body d (d.squares ++ q ∷ []) (items.Square v) (square_pushed d.squares q (zeros_zero (length p.columns))) b.nodes_are);
-      opens = record { last = coef_pushed d.squares q (zeros_zero (length p.columns)); nodes_are = b.nodes_are };
-      has = b.has;
-      idle = h.idle;
-      due = not_value;
-      unused = record { point = h.unused.point; ray = h.unused.ray; direction = h.unused.direction; squares = λ f. clash (has_points claim) b.has f; nodes_are = h.unused.nodes_are };
+      text = one_item claim s.part d new done (items.Square v) h.told.text (amid claim s.part words.Square d refl may) (same_first (is_optimal claim) d new refl)
+          (squares_body d (d.squares ++ q ∷ []) (items.Square v) (square_pushed d.squares q (zeros_zero (length p.columns))) none);
+      opens = record { last = coef_pushed d.squares q (zeros_zero (length p.columns)); nodes_are = none };
     }
-shown_more p claim s d done (items.Coef j v) unended a h =
-    let e = squares_is s.part a.stands in
-    let o : AtSquares s.next d = subst (λ part. Opens part s.next d) e h.opens in
-    let has : has_points claim ≡ true = subst (λ part. has_part claim part ≡ true) e h.has in
+told_more p claim s d done (items.Coef j v) a h =
+    let may = by_claim claim s words.Coef h.good.claim_is a.stands in
+    let e = coef_part claim s.part may in
+    let o : AtSquares s.next d = subst (λ part. Opens part s.next d) e h.told.opens in
     let qs = on_last (with_coef j v) d.squares in
     let new = record d { squares = qs } in
     record {
-      good = good_more p claim s d (items.Coef j v) a h.good;
-      text = one_item claim s.part d new done (items.Coef j v) h.text (before_node claim s.part d (ap is_value e) unended) (same_first (is_optimal claim) d new refl)
+      text = one_item claim s.part d new done (items.Coef j v) h.told.text (amid claim s.part words.Coef d refl may) (same_first (is_optimal claim) d new refl)
           (squares_body d qs (items.Coef j v) (coef_put s.next j (length p.columns) v d.squares o.last a.late h.good.squares.widths a.inside a.some) o.nodes_are);
       opens = record { last = coef_next s.next j v d.squares o.last a.late; nodes_are = o.nodes_are };
-      has = has;
-      idle = h.idle;
-      due = not_value;
-      unused = record { point = h.unused.point; ray = h.unused.ray; direction = h.unused.direction; squares = λ f. clash (has_points claim) has f; nodes_are = h.unused.nodes_are };
     }
-shown_more p claim s d done (items.Branch j k) unended a h =
-    let w = wanted_has claim s a.0 h.idle in
+told_more p claim s d done (items.Branch j k) a h =
     let n = nodes.Branch j k in
     let new = record d { nodes = d.nodes ++ n ∷ [] } in
     record {
-      good = good_more p claim s d (items.Branch j k) a h.good;
-      text = one_item claim s.part d new done (items.Branch j k) h.text (before_node claim s.part d w.1 unended) (same_first (is_optimal claim) d new refl)
+      text = one_item claim s.part d new done (items.Branch j k) h.told.text (amid claim s.part words.Branch d refl (by_claim claim s words.Branch h.good.claim_is a.0)) (same_first (is_optimal claim) d new refl)
           (nodes_body d (d.nodes ++ n ∷ []) (items.Branch j k) (node_pushed d.nodes n (items.Branch j k) refl));
       opens = tt;
-      has = w.0;
-      idle = λ f. clash (has_nodes claim) w.0 f;
-      due = not_value;
-      unused = record { point = h.unused.point; ray = h.unused.ray; direction = h.unused.direction; squares = h.unused.squares; nodes_are = λ f. clash (has_nodes claim) w.0 f };
     }
-shown_more p claim s d done items.Bound unended a h =
-    let w = wanted_has claim s (first_true (wants_node s) _ a) h.idle in
+told_more p claim s d done items.Bound a h =
     let x = zeros (length p.columns) in
     let y = zeros (length p.rows) in
     let new = record d { nodes = d.nodes ++ nodes.Bound x y ∷ [] } in
     record {
-      good = good_more p claim s d items.Bound a h.good;
-      text = one_item claim s.part d new done items.Bound h.text (before_node claim s.part d w.1 unended) (same_first (is_optimal claim) d new refl)
+      text = one_item claim s.part d new done items.Bound h.told.text (amid claim s.part words.Bound d refl (by_claim claim s words.Bound h.good.claim_is a)) (same_first (is_optimal claim) d new refl)
           (nodes_body d (d.nodes ++ nodes.Bound x y ∷ []) items.Bound (bound_pushed d.nodes x y (zeros_zero (length p.columns)) (zeros_zero (length p.rows))));
       opens = bound_begun d.nodes x y (zeros_zero (length p.columns)) (zeros_zero (length p.rows));
-      has = w.0;
-      idle = λ f. clash (has_nodes claim) w.0 f;
-      due = not_value;
-      unused = record { point = h.unused.point; ray = h.unused.ray; direction = h.unused.direction; squares = h.unused.squares; nodes_are = λ f. clash (has_nodes claim) w.0 f };
     }
-shown_more p claim s d done items.Farkas unended a h =
-    let w = wanted_has claim s a h.idle in
+told_more p claim s d done items.Farkas a h =
     let y = zeros (length p.rows) in
     let new = record d { nodes = d.nodes ++ nodes.Farkas y ∷ [] } in
     record {
-      good = good_more p claim s d items.Farkas a h.good;
-      text = one_item claim s.part d new done items.Farkas h.text (before_node claim s.part d w.1 unended) (same_first (is_optimal claim) d new refl)
+      text = one_item claim s.part d new done items.Farkas h.told.text (amid claim s.part words.Farkas d refl (by_claim claim s words.Farkas h.good.claim_is a)) (same_first (is_optimal claim) d new refl)
           (nodes_body d (d.nodes ++ nodes.Farkas y ∷ []) items.Farkas (farkas_pushed d.nodes y (zeros_zero (length p.rows))));
       opens = farkas_begun d.nodes y (zeros_zero (length p.rows));
-      has = w.0;
-      idle = λ f. clash (has_nodes claim) w.0 f;
-      due = not_value;
-      unused = record { point = h.unused.point; ray = h.unused.ray; direction = h.unused.direction; squares = h.unused.squares; nodes_are = λ f. clash (has_nodes claim) w.0 f };
     }
-shown_more p claim s d done (items.Cross j) unended a h =
-    let w = wanted_has claim s a.0 h.idle in
+told_more p claim s d done (items.Cross j) a h =
     let n = nodes.Cross j in
     let new = record d { nodes = d.nodes ++ n ∷ [] } in
     record {
-      good = good_more p claim s d (items.Cross j) a h.good;
-      text = one_item claim s.part d new done (items.Cross j) h.text (before_node claim s.part d w.1 unended) (same_first (is_optimal claim) d new refl)
+      text = one_item claim s.part d new done (items.Cross j) h.told.text (amid claim s.part words.Cross d refl (by_claim claim s words.Cross h.good.claim_is a.0)) (same_first (is_optimal claim) d new refl)
           (nodes_body d (d.nodes ++ n ∷ []) (items.Cross j) (node_pushed d.nodes n (items.Cross j) refl));
       opens = tt;
-      has = w.0;
-      idle = λ f. clash (has_nodes claim) w.0 f;
-      due = not_value;
-      unused = record { point = h.unused.point; ray = h.unused.ray; direction = h.unused.direction; squares = h.unused.squares; nodes_are = λ f. clash (has_nodes claim) w.0 f };
     }
-shown_more p claim s d done (items.W j v) unended a h =
-    let e = leaf_is s.part a.stands in
-    let o : LastW s.next d.nodes = subst (λ part. Opens part s.next d) e h.opens in
-    let has : has_nodes claim ≡ true = subst (λ part. has_part claim part ≡ true) e h.has in
+told_more p claim s d done (items.W j v) a h =
+    let may = by_claim claim s words.W h.good.claim_is a.stands in
+    let e = w_part claim s.part may in
+    let o : LastW s.next d.nodes = subst (λ part. Opens part s.next d) e h.told.opens in
     let ns = on_last (with_w j v) d.nodes in
     let new = record d { nodes = ns } in
     record {
-      good = good_more p claim s d (items.W j v) a h.good;
-      text = one_item claim s.part d new done (items.W j v) h.text (before_node claim s.part d (ap is_value e) unended) (same_first (is_optimal claim) d new refl)
+      text = one_item claim s.part d new done (items.W j v) h.told.text (amid claim s.part words.W d refl may) (same_first (is_optimal claim) d new refl)
           (nodes_body d ns (items.W j v) (w_put p s.next j v d.nodes o a.late h.good.nodes_are.nodes_fit a.inside a.some));
       opens = w_then s.next j v d.nodes o a.late;
-      has = has;
-      idle = h.idle;
-      due = not_value;
-      unused = record { point = h.unused.point; ray = h.unused.ray; direction = h.unused.direction; squares = h.unused.squares; nodes_are = λ f. clash (has_nodes claim) has f };
     }
-shown_more p claim s d done (items.Y j v) unended a h =
-    let b = before_y claim s.part s.next d a.stands h.has h.opens in
-    let low = if is_multipliers s.part then s.next else 0 in
+told_more p claim s d done (items.Y j v) a h =
+    let may = by_claim claim s words.Y h.good.claim_is a.stands in
+    let part = leaf_part claim s.part may in
+    let last = before_y s.part s.next d part h.told.opens in
+    let low = least s words.Y in
     let ns = on_last (with_y j v) d.nodes in
     let new = record d { nodes = ns } in
     record {
-      good = good_more p claim s d (items.Y j v) a h.good;
-      text = one_item claim s.part d new done (items.Y j v) h.text b.amid (same_first (is_optimal claim) d new refl)
-          (nodes_body d ns (items.Y j v) (y_put p low j v d.nodes b.last a.late h.good.nodes_are.nodes_fit a.inside a.some));
-      opens = y_then low j v d.nodes b.last a.late;
-      has = b.has;
-      idle = h.idle;
-      due = not_value;
-      unused = record { point = h.unused.point; ray = h.unused.ray; direction = h.unused.direction; squares = h.unused.squares; nodes_are = λ f. clash (has_nodes claim) b.has f };
+      text = one_item claim s.part d new done (items.Y j v) h.told.text (amid claim s.part words.Y d refl may) (same_first (is_optimal claim) d new refl)
+          (nodes_body d ns (items.Y j v) (y_put p low j v d.nodes last a.late h.good.nodes_are.nodes_fit a.inside a.some));
+      opens = y_then low j v d.nodes last a.late;
     }
-shown_more p claim s d done items.End unended a h =
-    let amid = before_node claim s.part d (not_due s h.due a) unended in
+told_more p claim s d done items.End a h =
+    let there = amid claim s.part words.End d refl (by_claim claim s words.End h.good.claim_is a) in
     record {
-      good = good_more p claim s d items.End a h.good;
-      text = ap (λ (l : List Item). l ++ items.End ∷ []) (h.text ∙ amid.text) ∙ append_assoc (first (is_optimal claim) d) (body d) (items.End ∷ []);
+      text = ap (λ (l : List Item). l ++ items.End ∷ []) (h.told.text ∙ there.text) ∙ append_assoc (first (is_optimal claim) d) (body d) (items.End ∷ []);
       opens = tt;
-      has = refl;
-      idle = h.idle;
-      due = not_value;
-      unused = h.unused;
+    }
+
+-- a node is told where the claim has a tree
+node_has : (claim : Claim) (s : Place) (word : CertificateWord) → is_node_word word ≡ true → may_stand s word ≡ true → (has_nodes claim ≡ false → s.wanted ≡ 0) → has_nodes claim ≡ true
+node_has claim s words.Branch n m idle = wanted_has claim s.wanted (is_wanted s words.Branch refl m) idle
+node_has claim s words.Bound n m idle = wanted_has claim s.wanted (is_wanted s words.Bound refl m) idle
+node_has claim s words.Farkas n m idle = wanted_has claim s.wanted (is_wanted s words.Farkas refl m) idle
+node_has claim s words.Cross n m idle = wanted_has claim s.wanted (is_wanted s words.Cross refl m) idle
+node_has claim s word n m idle = absurd cc
+
+has_tree : (claim : Claim) (word : CertificateWord) → is_node_word word ≡ true → has_nodes claim ≡ true → has_part claim (part_of word) ≡ true
+has_tree claim word n h = grind arith
+
+has_next : (claim : Claim) (part : Part) (word : CertificateWord) → is_node_word word ≡ false → can claim part word ≡ true → has_part claim part ≡ true → has_part claim (part_of word) ≡ true
+has_next claim part word n e h = grind arith
+
+has_more : (claim : Claim) (s : Place) (word : CertificateWord) → s.claim ≡ claim → may_stand s word ≡ true → (has_nodes claim ≡ false → s.wanted ≡ 0) → has_part claim s.part ≡ true → has_part claim (part_of word) ≡ true
+has_more claim s word c m idle h = go (is_node_word word) refl
+  where
+    go : (b : Bool) → is_node_word word ≡ b → has_part claim (part_of word) ≡ true
+    go true n = has_tree claim word n (node_has claim s word n m idle)
+    go false n = has_next claim s.part word n (by_claim claim s word c m) h
+
+idle_more : (claim : Claim) (s : Place) (item : Item) → has_part claim (part_of (item_word item)) ≡ true → (has_nodes claim ≡ false → s.wanted ≡ 0) → has_nodes claim ≡ false → (lands s item).wanted ≡ 0
+idle_more claim s (items.Branch j k) has h f = clash (has_nodes claim) has f
+idle_more claim s items.Bound has h f = clash (has_nodes claim) has f
+idle_more claim s items.Farkas has h f = clash (has_nodes claim) has f
+idle_more claim s (items.Cross j) has h f = clash (has_nodes claim) has f
+idle_more claim s item has h f = h f
+
+unused_more : (claim : Claim) (c r : ℕ) (d : Draft) (item : Item) → has_part claim (part_of (item_word item)) ≡ true → AreUnused claim d → AreUnused claim (with_item c r item d)
+unused_more claim c r d (items.Value v) has h = record { point = h.point; ray = h.ray; direction = h.direction; squares = h.squares; nodes_are = h.nodes_are }
+unused_more claim c r d (items.Point j v) has h = record { point = λ f. clash (has_points claim) has f; ray = h.ray; direction = h.direction; squares = h.squares; nodes_are = h.nodes_are }
+unused_more claim c r d (items.Ray j v) has h = record { point = h.point; ray = λ f. clash (is_unbounded claim) has f; direction = h.direction; squares = h.squares; nodes_are = h.nodes_are }
+unused_more claim c r d (items.Direction j v) has h = record { point = h.point; ray = h.ray; direction = λ f. clash (has_directions claim) has f; squares = h.squares; nodes_are = h.nodes_are }
+unused_more claim c r d (items.Square v) has h = record { point = h.point; ray = h.ray; direction = h.direction; squares = λ f. clash (has_points claim) has f; nodes_are = h.nodes_are }
+unused_more claim c r d (items.Coef j v) has h = record { point = h.point; ray = h.ray; direction = h.direction; squares = λ f. clash (has_points claim) has f; nodes_are = h.nodes_are }
+unused_more claim c r d items.End has h = h
+unused_more claim c r d item has h = record { point = h.point; ray = h.ray; direction = h.direction; squares = h.squares; nodes_are = λ f. clash (has_nodes claim) has f }
+
+shown_more : (p : Program) (claim : Claim) (s : Place) (d : Draft) (done : List Item) (item : Item) → Accepted p s item → IsShown p claim s d done
+    → IsShown p claim (lands s item) (with_item (length p.columns) (length p.rows) item d) (done ++ item ∷ [])
+shown_more p claim s d done item a h =
+    let has = has_more claim s (item_word item) h.good.claim_is (accepted_stands p s item a) h.idle h.has in
+    record {
+      good = good_more p claim s d item a h.good;
+      told = told_more p claim s d done item a h;
+      has = has;
+      idle = idle_more claim s item has h.idle;
+      unused = unused_more claim (length p.columns) (length p.rows) d item has h.unused;
     }
 
 shown_all : (p : Program) (claim : Claim) (s : Place) (d : Draft) (done later : List Item) → Runs p s later → IsShown p claim s d done → IsShown p claim (after_all s later) (tell_all p d later) (done ++ later)
 shown_all p claim s d done [] r h = subst (λ (l : List Item). IsShown p claim s d l) (sym (append-nil done)) h
 shown_all p claim s d done (item ∷ later) r h =
     let new = with_item (length p.columns) (length p.rows) item d in
-    let more = shown_all p claim (after s item) new (done ++ item ∷ []) later r.2 (shown_more p claim s d done item r.0 r.1 h) in
-    subst (λ (l : List Item). IsShown p claim (after_all (after s item) later) (tell_all p new later) l) (append_assoc done (item ∷ []) later) more
+    let more = shown_all p claim (lands s item) new (done ++ item ∷ []) later r.2 (shown_more p claim s d done item r.1 h) in
+    subst (λ (l : List Item). IsShown p claim (after_all (lands s item) later) (tell_all p new later) l) (append_assoc done (item ∷ []) later) more
 
 -- ---- the beginning and the end
 
@@ -587,38 +449,27 @@ empty_blank n = record { point = zeros_zero n; ray = zeros_zero n; direction = z
 unused_blank : (claim : Claim) (n : ℕ) → AreUnused claim (blank n)
 unused_blank claim n = record { point = λ f. zeros_zero n; ray = λ f. zeros_zero n; direction = λ f. zeros_zero n; squares = λ f. refl; nodes_are = λ f. refl }
 
+told_start : (claim : Claim) (n : ℕ) → IsTold claim (start claim) (blank n) []
+told_start Optimal n = record { text = refl; opens = empty_blank n }
+told_start Infeasible n = record { text = sym (body_none (blank n) (empty_blank n)); opens = tt }
+told_start Unbounded n = record {
+  text = sym (body_none (blank n) (empty_blank n));
+  opens = record { point = zeros_zero n; ray = zeros_zero n; direction = zeros_zero n; none = record { squares = refl; nodes_are = refl } };
+}
+told_start NotConvex n = record { text = sym (body_none (blank n) (empty_blank n)); opens = record { direction = zeros_zero n; none = record { squares = refl; nodes_are = refl } } }
+
+has_start : (claim : Claim) → has_part claim (start claim).part ≡ true
+has_start claim = grind arith
+
+idle_start : (claim : Claim) → has_nodes claim ≡ false → (start claim).wanted ≡ 0
+idle_start claim e = grind arith
+
 shown_start : (p : Program) (claim : Claim) → IsShown p claim (start claim) (blank (length p.columns)) []
-shown_start p Optimal = record { good = good_start p Optimal; text = refl; opens = empty_blank (length p.columns); has = refl; idle = λ f. absurd cc; due = λ f. refl; unused = unused_blank Optimal (length p.columns) }
-shown_start p Infeasible = record { good = good_start p Infeasible; text = sym (body_none (blank (length p.columns)) (empty_blank (length p.columns))); opens = tt; has = refl; idle = λ f. absurd cc; due = not_value; unused = unused_blank Infeasible (length p.columns) }
-shown_start p Unbounded = record {
-  good = good_start p Unbounded;
-  text = sym (body_none (blank (length p.columns)) (empty_blank (length p.columns)));
-  opens = record { point = zeros_zero (length p.columns); ray = zeros_zero (length p.columns); direction = zeros_zero (length p.columns); none = record { squares = refl; nodes_are = refl } };
-  has = refl;
-  idle = λ f. refl;
-  due = not_value;
-  unused = unused_blank Unbounded (length p.columns);
-}
-shown_start p NotConvex = record {
-  good = good_start p NotConvex;
-  text = sym (body_none (blank (length p.columns)) (empty_blank (length p.columns)));
-  opens = record { direction = zeros_zero (length p.columns); none = record { squares = refl; nodes_are = refl } };
-  has = refl;
-  idle = λ f. refl;
-  due = not_value;
-  unused = unused_blank NotConvex (length p.columns);
-}
+shown_start p claim = record { good = good_start p claim; told = told_start claim (length p.columns); has = has_start claim; idle = idle_start claim; unused = unused_blank claim (length p.columns) }
 
 ended_shown : (claim : Claim) (part : Part) (d : Draft) → is_ended part ≡ true → shown claim part d ≡ first (is_optimal claim) d ++ (body d ++ items.End ∷ [])
 ended_shown claim parts.Ended d e = refl
-ended_shown claim parts.Value d e = absurd cc
-ended_shown claim parts.Points d e = absurd cc
-ended_shown claim parts.Rays d e = absurd cc
-ended_shown claim parts.Directions d e = absurd cc
-ended_shown claim parts.Squares d e = absurd cc
-ended_shown claim parts.Nodes d e = absurd cc
-ended_shown claim parts.LeafPoint d e = absurd cc
-ended_shown claim parts.Multipliers d e = absurd cc
+ended_shown claim part d e = absurd cc
 
 all_items : (claim : Claim) (d : Draft) → AreUnused claim d → first (is_optimal claim) d ++ (body d ++ items.End ∷ []) ≡ items_of (certificate_told claim d)
 all_items Optimal d h =
@@ -648,4 +499,4 @@ pub later_is : (p : Program) (claim : Claim) (later : List Item) → Runs p (sta
 later_is p claim later r e =
     let h = shown_all p claim (start claim) (blank (length p.columns)) [] later r (shown_start p claim) in
     let d = tell_all p (blank (length p.columns)) later in
-    h.text ∙ ended_shown claim (after_all (start claim) later).part d e ∙ all_items claim d h.unused
+    h.told.text ∙ ended_shown claim (after_all (start claim) later).part d e ∙ all_items claim d h.unused

@@ -12,7 +12,7 @@ use Rattle.cert_text.specs.declared.draft.Draft.{Draft}
 use Rattle.cert_text.specs.declared.items.Item.{Item}
 use Rattle.cert_text.specs.declared.items.Claim.{Claim}
 use Rattle.cert_text.specs.declared.items.Claim.TheVariants.{Optimal, Infeasible, Unbounded, NotConvex}
-use Rattle.cert_text.specs.Parts.{pieces_of}
+use Rattle.cert_fields.specs.Parts.{pieces_of}
 use Rattle.cert_text.specs.Text.{line_text, lines_text, certificate_text}
 use Rattle.cert_text.specs.Told.{blank, certificate_told}
 use Rattle.cert_text.specs.Reading.{claim_with, claim_in, read_claimed, read_pieces, read_on, read_of, Reads}
@@ -25,7 +25,7 @@ use Rattle.cert_text.proofs.ReadBack.{items_of, claim_of, claim_word, all_fields
 use Rattle.cert_text.proofs.Accepts.{accepts, read_writable}
 use Rattle.cert_text.proofs.ShownRuns.{later_is}
 
-claim_back : (line : List ℕ) (claim : Claim) → claim_in line ≡ Some claim → line ≡ claim_word claim
+pub claim_back : (line : List ℕ) (claim : Claim) → claim_in line ≡ Some claim → line ≡ claim_word claim
 unfolding claim_in
 claim_back line claim e = go (named certificate_word_names line) refl e
   where
@@ -38,27 +38,15 @@ claim_back line claim e = go (named certificate_word_names line) refl e
     go (Some words.Infeasible) f e = word_back line words.Infeasible f ∙ ap claim_word (same Infeasible claim e)
     go (Some words.Unbounded) f e = word_back line words.Unbounded f ∙ ap claim_word (same Unbounded claim e)
     go (Some words.NotConvex) f e = word_back line words.NotConvex f ∙ ap claim_word (same NotConvex claim e)
-    go (Some words.Value) f e = absurd cc
-    go (Some words.Point) f e = absurd cc
-    go (Some words.Ray) f e = absurd cc
-    go (Some words.Vector) f e = absurd cc
-    go (Some words.Square) f e = absurd cc
-    go (Some words.Coef) f e = absurd cc
-    go (Some words.Branch) f e = absurd cc
-    go (Some words.Bound) f e = absurd cc
-    go (Some words.Farkas) f e = absurd cc
-    go (Some words.Cross) f e = absurd cc
-    go (Some words.W) f e = absurd cc
-    go (Some words.Y) f e = absurd cc
-    go (Some words.End) f e = absurd cc
+    go (Some word) f e = absurd cc
 
-claim_told : (claim : Claim) (d : Draft) → claim_of (certificate_told claim d) ≡ claim
+pub claim_told : (claim : Claim) (d : Draft) → claim_of (certificate_told claim d) ≡ claim
 claim_told Optimal d = refl
 claim_told Infeasible d = refl
 claim_told Unbounded d = refl
 claim_told NotConvex d = refl
 
-text_of_items : (p : Program) (c : Certificate) → IsWritable p c → certificate_text p c ≡ line_text (claim_word (claim_of c) ∷ []) ++ flat_map (item_text p) (items_of c)
+pub text_of_items : (p : Program) (c : Certificate) → IsWritable p c → certificate_text p c ≡ line_text (claim_word (claim_of c) ∷ []) ++ flat_map (item_text p) (items_of c)
 unfolding certificate_text
 text_of_items p c h = ap lines_text (all_fields p c h) ∙ ap (λ (t : List ℕ). line_text (claim_word (claim_of c) ∷ []) ++ t) (lines_of_items p (items_of c))
 

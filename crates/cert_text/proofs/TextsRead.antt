@@ -13,23 +13,26 @@ use Rattle.rational.specs.Rational.{ℚ, Fits}
 use Rattle.frac_core.specs.Parts.{max_part}
 use Rattle.frac_core.specs.Text.{text_of}
 use Rattle.program_law.specs.Program.{Program, IsProgram, IsName}
-use Rattle.cert_text.specs.declared.names.Axis.{Axis}
-use Rattle.cert_text.specs.declared.names.Axis.TheVariants.{Columns, Rows}
+use Rattle.cert_fields.specs.declared.names.Axis.{Axis}
+use Rattle.cert_fields.specs.declared.names.Axis.TheVariants.{Columns, Rows}
 use Rattle.cert_text.specs.declared.items.Item.{Item}
 use Rattle.cert_text.specs.declared.items.Item.TheVariants as items
 use Rattle.cert_text.specs.declared.items.Claim.{Claim}
 use Rattle.cert_text.specs.declared.places.Place.{Place}
 use Rattle.cert_text.specs.declared.draft.Draft.{Draft}
-use Rattle.cert_text.specs.Parts.{is_byte, pieces_of, parts_of}
-use Rattle.cert_text.specs.Text.{names_on, count_on, name_at, line_text}
-use Rattle.cert_text.specs.Places.{after, place_after, is_ended}
-use Rattle.cert_text.specs.Faults.{is_filled, line_fault}
+use Rattle.cert_fields.specs.Parts.{is_byte, pieces_of, parts_of}
+use Rattle.cert_fields.specs.Fields.{is_filled}
+use Rattle.cert_fields.specs.Names.{names_on, count_on, name_at}
+use Rattle.cert_fields.specs.Lines.{line_text}
+use Rattle.cert_text.specs.Places.{place_after, is_ended}
+use Rattle.cert_text.specs.Faults.{line_fault}
 use Rattle.cert_text.specs.Told.{item_of, with_item, told_by, certificate_told}
 use Rattle.cert_text.specs.Reading.{fault_or, read_on}
-use Rattle.cert_text.proofs.NameLemmas.{count_names}
-use Rattle.cert_text.proofs.NumberTexts.{decimal_plain}
-use Rattle.cert_text.proofs.NumbersRead.{spelled, is_below, signed_text, small}
-use Rattle.cert_text.proofs.ItemFields.{fields_of, Accepted, HasNames}
+use Rattle.cert_fields.proofs.NameLemmas.{count_names}
+use Rattle.cert_fields.proofs.NumberTexts.{decimal_plain}
+use Rattle.cert_fields.proofs.NumbersRead.{spelled, is_below, signed_text, small}
+use Rattle.cert_text.proofs.Lands.{first_true, second_true, lands, after_is}
+use Rattle.cert_text.proofs.ItemFields.{fields_of, Accepted, accepted_stands, HasNames}
 use Rattle.cert_text.proofs.LinesRead.{fields_read}
 use Rattle.cert_text.proofs.Readings.{step}
 
@@ -41,14 +44,6 @@ is_clear b = not (b == 10) && not (b == 32)
 -- no byte is a blank or a line feed
 pub record IsClear (bs : List ℕ) : Type 0 where
   pub bytes : list_all is_clear bs ≡ true
-
-first_true : (a b : Bool) → (a && b) ≡ true → a ≡ true
-first_true true b e = refl
-first_true false b e = absurd cc
-
-second_true : (a b : Bool) → (a && b) ≡ true → b ≡ true
-second_true true b e = e
-second_true false b e = absurd cc
 
 all_more : (p q : ℕ → Bool) → ((b : ℕ) → p b ≡ true → q b ≡ true) → (bs : List ℕ) → list_all p bs ≡ true → list_all q bs ≡ true
 all_more p q h [] e = refl
@@ -131,7 +126,7 @@ fields_clear p s items.End h a = (word_clear (codes "END") refl, tt)
 
 -- ---- what is joined is split again
 
-abbrev without : ℕ → ℕ → Bool
+abbrev pub without : ℕ → ℕ → Bool
 without byte b = not (is_byte byte b)
 
 is_other : (byte b : ℕ) → without byte b ≡ true → is_byte byte b ≡ false
@@ -179,19 +174,7 @@ filled_parts p item h = go (fields_of p item) (some p item) h
     go (f ∷ fs) lt h = parts_joined f fs h
 
     some : (p : Program) (item : Item) → 0 < length (fields_of p item)
-    some p (items.Value v) = omega arith
-    some p (items.Point j v) = omega arith
-    some p (items.Ray j v) = omega arith
-    some p (items.Direction j v) = omega arith
-    some p (items.Square v) = omega arith
-    some p (items.Coef j v) = omega arith
-    some p (items.Branch j k) = omega arith
-    some p items.Bound = omega arith
-    some p items.Farkas = omega arith
-    some p (items.Cross j) = omega arith
-    some p (items.W j v) = omega arith
-    some p (items.Y i v) = omega arith
-    some p items.End = omega arith
+    some p item = grind arith
 
 -- ---- items one after another
 
@@ -201,11 +184,11 @@ item_text p item = line_text (fields_of p item)
 -- each item is accepted behind those before it
 abbrev pub Runs : Program → Place → List Item → Type 0
 Runs p s [] = Unit {0}
-Runs p s (item ∷ later) = (is_ended s.part ≡ false) × Accepted p s item × Runs p (after s item) later
+Runs p s (item ∷ later) = (is_ended s.part ≡ false) × Accepted p s item × Runs p (lands s item) later
 
 abbrev pub after_all : Place → List Item → Place
 after_all s [] = s
-after_all s (item ∷ later) = after_all (after s item) later
+after_all s (item ∷ later) = after_all (lands s item) later
 
 abbrev pub tell_all : Program → Draft → List Item → Draft
 tell_all p d [] = d
@@ -221,8 +204,9 @@ run_read p claim n earlier (item ∷ later) h r e =
     let rest = flat_map (item_text p) later in
     let parts : parts_of line ≡ fields_of p item = filled_parts p item clear in
     let read = fields_read p s item (has_names p h) r.1 in
+    let there = sym (after_is s item (accepted_stands p s item r.1)) in
     step p claim n earlier line (item_text p item ++ rest) rest (line_pieces (fields_of p item) rest clear) r.0
     ∙ ap (λ ps. fault_or (line_fault p s ps) n (read_on p claim (n + 1) (item_of p ps ∷ earlier) (pieces_of rest))) parts
     ∙ ap (λ f. fault_or f n (read_on p claim (n + 1) (item_of p (fields_of p item) ∷ earlier) (pieces_of rest))) read.clear
     ∙ ap (λ i. read_on p claim (n + 1) (i ∷ earlier) (pieces_of rest)) read.told
-    ∙ run_read p claim (n + 1) (item ∷ earlier) later h r.2 e
+    ∙ run_read p claim (n + 1) (item ∷ earlier) later h (subst (λ t. Runs p t later) there r.2) (subst (λ t. is_ended (after_all t later).part ≡ true) there e)

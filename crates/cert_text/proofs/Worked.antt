@@ -15,7 +15,7 @@ use Rattle.std.specs.Fmt.{digits}
 use Rattle.cert_text.specs.Text.{certificate_text}
 use Rattle.cert_text.specs.Reading.{Answer, read_of}
 use Rattle.cert_text.specs.Faults.{line_fault}
-use Rattle.cert_text.specs.Numbers.{number_of, lowest_number}
+use Rattle.cert_fields.specs.Numbers.{number_of, lowest_number}
 use Rattle.cert_text.specs.Told.{item_of}
 use Rattle.cert_text.specs.Reading.{claim_in}
 

@@ -6,11 +6,14 @@ use Rattle.program_law.specs.Places.{place_of}
 use Rattle.mps_tokens.specs.declared.words.CertificateWord.{CertificateWord}
 use Rattle.cert_text.specs.declared.kinds.CertKind.{CertKind}
 use Rattle.cert_text.specs.declared.places.Place.{Place}
-use Rattle.cert_text.specs.declared.fields.Allowed.{Allowed}
+use Rattle.cert_text.specs.declared.grammar.Allowed.{Allowed}
+use Rattle.cert_text.specs.declared.grammar.Shape.{Shape}
 use Rattle.cert_text.specs.declared.items.Item.{Item}
-use Rattle.cert_text.specs.Numbers.{number_of}
-use Rattle.cert_text.specs.Faults.{first_of, field, bare_tests, number_tests, name_tests, entry_tests, tests, line_fault}
-use Rattle.cert_text.specs.Told.{item_of, item_with}
+use Rattle.cert_text.specs.declared.items.Found.{Found}
+use Rattle.cert_fields.specs.Fields.{field}
+use Rattle.cert_fields.specs.Numbers.{number_of}
+use Rattle.cert_text.specs.Faults.{first_of, bare_tests, number_tests, name_tests, entry_tests, shape_tests, line_fault}
+use Rattle.cert_text.specs.Told.{item_of, found_in}
 
 abbrev pub ReadsBare : Place → CertificateWord → List (List ℕ) → Result (Unit {0}) CertKind → Type 0
 ReadsBare s word fields (Ok u) = first_of (bare_tests s word fields) ≡ None
@@ -29,10 +32,10 @@ ReadsEntry s word names allowed fields (Ok e) =
     (first_of (entry_tests s word names allowed fields) ≡ None) × (place_of names (field fields 0) ≡ Some e.0) × (number_of (field fields 1) ≡ Ok e.1)
 ReadsEntry s word names allowed fields (Err kind) = first_of (entry_tests s word names allowed fields) ≡ Some kind
 
--- the item of a line with a word, or its fault
-abbrev pub ReadsWord : Program → Place → CertificateWord → List (List ℕ) → Result Item CertKind → Type 0
-ReadsWord p s word fields (Ok item) = (first_of (tests p s word fields) ≡ None) × (item_with p (Some word) fields ≡ item)
-ReadsWord p s word fields (Err kind) = first_of (tests p s word fields) ≡ Some kind
+-- what stands behind the word of a line, or its fault
+abbrev pub ReadsFound : Program → Place → CertificateWord → Shape → List (List ℕ) → Result Found CertKind → Type 0
+ReadsFound p s word shape fields (Ok found) = (first_of (shape_tests p s word shape fields) ≡ None) × (found_in p shape fields ≡ found)
+ReadsFound p s word shape fields (Err kind) = first_of (shape_tests p s word shape fields) ≡ Some kind
 
 -- the item of a line, or its fault
 abbrev pub ReadsLine : Program → Place → List (List ℕ) → Result Item CertKind → Type 0

@@ -1,12 +1,10 @@
 -- What is wrong with a line: the first of its tests, in the order of the kinds, that holds.
-use Rattle.std.specs.Prelude.{ℕ, ◌==◌, ◌&&◌, not, nat_lt, Bool, true, false, List, [], ◌∷◌, length, Option, Some, None, Result, Ok, Err, is_none, slice_index_or, if◌then◌else◌}
-use Rattle.std.specs.List.{list_all}
+use Rattle.std.specs.Prelude.{ℕ, ◌==◌, ◌&&◌, not, nat_lt, Bool, true, false, List, [], ◌∷◌, Option, Some, None, Result, Ok, Err, is_none, if◌then◌else◌}
 use Rattle.rational.specs.Rational.{ℚ}
 use Rattle.program_law.specs.Program.{Program}
 use Rattle.program_law.specs.Places.{place_of}
 use Rattle.program_law.specs.Tests.{is_zero, is_positive}
 use Rattle.mps_tokens.specs.declared.words.CertificateWord.{CertificateWord}
-use Rattle.mps_tokens.specs.declared.words.CertificateWord.TheVariants as words
 use Rattle.mps_tokens.specs.Words.{certificate_word_names}
 use Rattle.mps_tokens.specs.Cases.{named}
 use Rattle.cert_text.specs.declared.kinds.CertKind.{CertKind}
@@ -14,11 +12,14 @@ use Rattle.cert_text.specs.declared.kinds.CertKind.TheVariants as kinds
 use Rattle.cert_text.specs.declared.places.Place.{Place}
 use Rattle.mps_tokens.specs.declared.fault.NumberFault.{NumberFault}
 use Rattle.mps_tokens.specs.declared.fault.NumberFault.TheVariants.{NotNumber, Past}
-use Rattle.cert_text.specs.declared.names.Axis.TheVariants.{Columns, Rows}
-use Rattle.cert_text.specs.declared.fields.Allowed.{Allowed}
-use Rattle.cert_text.specs.declared.fields.Allowed.TheVariants.{Any, NotZero, Positive, Whole}
-use Rattle.cert_text.specs.Text.{names_on}
-use Rattle.cert_text.specs.Numbers.{number_of}
+use Rattle.cert_fields.specs.Fields.{behind, field, has_fields}
+use Rattle.cert_fields.specs.Names.{names_on}
+use Rattle.cert_fields.specs.Numbers.{number_of}
+use Rattle.cert_text.specs.declared.grammar.Allowed.{Allowed}
+use Rattle.cert_text.specs.declared.grammar.Allowed.TheVariants.{Any, NotZero, Positive, Whole}
+use Rattle.cert_text.specs.declared.grammar.Shape.{Shape}
+use Rattle.cert_text.specs.declared.grammar.Shape.TheVariants.{Bare, Number, Name, Entry}
+use Rattle.cert_text.specs.Grammar.{shape_of}
 use Rattle.cert_text.specs.Places.{may_stand, least, is_one_too_many}
 
 abbrev pub Tests : Type 0
@@ -27,17 +28,6 @@ Tests = List (Bool × CertKind)
 abbrev pub first_of : Tests → Option CertKind
 first_of [] = None
 first_of (t ∷ ts) = if t.0 then Some t.1 else first_of ts
-
--- a field behind the word
-abbrev pub field : List (List ℕ) → ℕ → List ℕ
-field fields k = slice_index_or fields k []
-
-abbrev pub is_filled : List ℕ → Bool
-is_filled bytes = not (length bytes == 0)
-
--- so many fields behind the word, each behind one blank, and no blank at the end
-abbrev pub has_fields : ℕ → List (List ℕ) → Bool
-has_fields n fields = (length fields == n) && list_all is_filled fields
 
 -- ---- the numbers that a line may have
 
@@ -96,30 +86,20 @@ entry_tests s word names allowed fields =
     ∷ (is_one_too_many s word, kinds.CertMany)
     ∷ []
 
+-- the tests of a line with a word and a shape
+abbrev pub shape_tests : Program → Place → CertificateWord → Shape → List (List ℕ) → Tests
+shape_tests p s word Bare fields = bare_tests s word fields
+shape_tests p s word (Number allowed) fields = number_tests s word allowed fields
+shape_tests p s word (Name axis) fields = name_tests s word (names_on p axis) fields
+shape_tests p s word (Entry axis allowed) fields = entry_tests s word (names_on p axis) allowed fields
+
 abbrev pub tests : Program → Place → CertificateWord → List (List ℕ) → Tests
-tests p s words.Value fields = number_tests s words.Value Any fields
-tests p s words.Point fields = entry_tests s words.Point (names_on p Columns) NotZero fields
-tests p s words.Ray fields = entry_tests s words.Ray (names_on p Columns) NotZero fields
-tests p s words.Vector fields = entry_tests s words.Vector (names_on p Columns) NotZero fields
-tests p s words.Square fields = number_tests s words.Square Positive fields
-tests p s words.Coef fields = entry_tests s words.Coef (names_on p Columns) NotZero fields
-tests p s words.Branch fields = entry_tests s words.Branch (names_on p Columns) Whole fields
-tests p s words.Bound fields = bare_tests s words.Bound fields
-tests p s words.Farkas fields = bare_tests s words.Farkas fields
-tests p s words.Cross fields = name_tests s words.Cross (names_on p Columns) fields
-tests p s words.W fields = entry_tests s words.W (names_on p Columns) NotZero fields
-tests p s words.Y fields = entry_tests s words.Y (names_on p Rows) NotZero fields
-tests p s words.End fields = bare_tests s words.End fields
-tests p s word fields = (true, kinds.CertLine) ∷ []
+tests p s word fields = shape_tests p s word (shape_of word) fields
 
 -- the word of a line
 abbrev pub word_of : List (List ℕ) → Option CertificateWord
 word_of [] = None
 word_of (word ∷ fields) = named certificate_word_names word
-
-abbrev pub behind : List (List ℕ) → List (List ℕ)
-behind [] = []
-behind (word ∷ fields) = fields
 
 abbrev pub fault_of_word : Program → Place → Option CertificateWord → List (List ℕ) → Option CertKind
 fault_of_word p s None fields = Some kinds.CertLine

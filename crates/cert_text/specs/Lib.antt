@@ -1,12 +1,11 @@
-pub mod Numbers
 pub mod Text
-pub mod Appending
-pub mod Parts
+pub mod Grammar
 pub mod Places
-pub mod Numerals
 pub mod Entered
 pub mod Faults
 pub mod Told
 pub mod Reading
 pub mod History
+pub mod Filled
 pub mod Writable
+pub mod Fronts

@@ -13,7 +13,7 @@ use Rattle.cert_text.specs.declared.kinds.CertKind.{CertKind}
 use Rattle.cert_text.specs.declared.kinds.CertKind.TheVariants as kinds
 use Rattle.cert_text.specs.declared.kinds.CertStop.{CertStop}
 use Rattle.cert_text.specs.declared.kinds.CertStop.TheVariants as stops
-use Rattle.cert_text.specs.Parts.{pieces_of, parts_of}
+use Rattle.cert_fields.specs.Parts.{pieces_of, parts_of}
 use Rattle.cert_text.specs.Places.{place_after, is_ended}
 use Rattle.cert_text.specs.Faults.{line_fault}
 use Rattle.cert_text.specs.Told.{item_of, told_by, certificate_told}

@@ -1,36 +1,23 @@
 -- The text of a certificate: its lines in order, each as fields with one blank between two.
-use Rattle.std.specs.Prelude.{ℕ, List, [], ◌∷◌, ◌++◌, length, slice_index_or, codes, if◌then◌else◌}
-use Rattle.std.specs.List.{flat_map, join_with_byte}
+use Rattle.std.specs.Prelude.{ℕ, List, [], ◌∷◌, ◌++◌, codes, if◌then◌else◌}
+use Rattle.std.specs.List.{flat_map}
 use Rattle.std.specs.Fmt.{signed_decimal}
 use Rattle.rational.specs.Rational.{ℚ}
 use Rattle.frac_core.specs.Text.{text_of}
 use Rattle.program_law.specs.Program.{Program}
 use Rattle.program_law.specs.Tests.{is_zero}
 use Rattle.program_law.specs.declared.Square.{Square}
-use Rattle.program_model.specs.Named.{names_of}
 use Rattle.certificate_law.specs.declared.Node.{Node}
 use Rattle.certificate_law.specs.declared.Node.TheVariants.{Branch, Bound, Farkas, Cross}
 use Rattle.certificate_law.specs.declared.Certificate.{Certificate}
 use Rattle.certificate_law.specs.declared.Certificate.TheVariants.{Optimal, Infeasible, Unbounded, NotConvex}
-use Rattle.cert_text.specs.declared.names.Axis.{Axis}
-use Rattle.cert_text.specs.declared.names.Axis.TheVariants.{Columns, Rows}
+use Rattle.cert_fields.specs.declared.names.Axis.TheVariants.{Columns, Rows}
+pub use Rattle.cert_fields.specs.Names.{names_on, count_on, name_at}
+pub use Rattle.cert_fields.specs.Lines.{line_text}
 
 -- a line is its fields
 abbrev pub Lines : Type 0
 Lines = List (List (List ℕ))
-
--- the names of the columns, or of the rows
-abbrev pub names_on : Program → Axis → List (List ℕ)
-names_on p Columns = names_of p.columns
-names_on p Rows = names_of p.rows
-
--- how many there are
-abbrev pub count_on : Program → Axis → ℕ
-count_on p Columns = length p.columns
-count_on p Rows = length p.rows
-
-abbrev pub name_at : List (List ℕ) → ℕ → List ℕ
-name_at names j = slice_index_or names j []
 
 -- the line of an entry, and none where it is 0
 abbrev pub entry_line : List ℕ → List ℕ → ℚ → Lines
@@ -55,20 +42,19 @@ node_lines p (Cross j) = (codes "CROSS" ∷ name_at (names_on p Columns) j ∷ [
 abbrev pub end_line : Lines
 end_line = (codes "END" ∷ []) ∷ []
 
-abbrev pub certificate_lines : Program → Certificate → Lines
-certificate_lines p (Optimal x v squares tree) =
-    (codes "OPTIMAL" ∷ [])
-    ∷ (codes "VALUE" ∷ text_of v ∷ [])
-    ∷ (entry_lines (codes "POINT") (names_on p Columns) x ++ (flat_map (square_lines p) squares ++ (flat_map (node_lines p) tree ++ end_line)))
-certificate_lines p (Infeasible tree) = (codes "INFEASIBLE" ∷ []) ∷ (flat_map (node_lines p) tree ++ end_line)
-certificate_lines p (Unbounded x d squares) =
-    (codes "UNBOUNDED" ∷ [])
-    ∷ (entry_lines (codes "POINT") (names_on p Columns) x ++ (entry_lines (codes "RAY") (names_on p Columns) d ++ (flat_map (square_lines p) squares ++ end_line)))
-certificate_lines p (NotConvex v) = (codes "NOTCONVEX" ∷ []) ∷ (entry_lines (codes "VECTOR") (names_on p Columns) v ++ end_line)
+-- a point that is best, with squares and a tree
+abbrev pub best_lines : Program → List ℚ → List Square → List Node → Lines
+best_lines p x squares tree = entry_lines (codes "POINT") (names_on p Columns) x ++ (flat_map (square_lines p) squares ++ (flat_map (node_lines p) tree ++ end_line))
 
--- the fields with one blank between two, and a line feed
-abbrev pub line_text : List (List ℕ) → List ℕ
-line_text fields = join_with_byte 32 fields ++ 10 ∷ []
+-- a ray with squares
+abbrev pub ray_lines : Program → List ℚ → List Square → Lines
+ray_lines p d squares = entry_lines (codes "RAY") (names_on p Columns) d ++ (flat_map (square_lines p) squares ++ end_line)
+
+abbrev pub certificate_lines : Program → Certificate → Lines
+certificate_lines p (Optimal x v squares tree) = (codes "OPTIMAL" ∷ []) ∷ (codes "VALUE" ∷ text_of v ∷ []) ∷ best_lines p x squares tree
+certificate_lines p (Infeasible tree) = (codes "INFEASIBLE" ∷ []) ∷ (flat_map (node_lines p) tree ++ end_line)
+certificate_lines p (Unbounded x d squares) = (codes "UNBOUNDED" ∷ []) ∷ (entry_lines (codes "POINT") (names_on p Columns) x ++ ray_lines p d squares)
+certificate_lines p (NotConvex v) = (codes "NOTCONVEX" ∷ []) ∷ (entry_lines (codes "VECTOR") (names_on p Columns) v ++ end_line)
 
 abbrev pub lines_text : Lines → List ℕ
 lines_text lines = flat_map line_text lines

@@ -1,27 +1,30 @@
 -- What the lines of a certificate tell.
-use Rattle.std.specs.Prelude.{ℕ, ◌++◌, List, [], ◌∷◌, length, Option, Some, Result, Ok, Err, unwrap_or, slice_set}
+use Rattle.std.specs.Prelude.{ℕ, ◌++◌, List, [], ◌∷◌, length, Option, Some, None, Result, Ok, Err, unwrap_or, slice_set}
 use Rattle.rational.specs.Rational.{ℚ, zero_ℚ}
 use Rattle.program_law.specs.Program.{Program}
 use Rattle.program_law.specs.Places.{place_of}
 use Rattle.program_law.specs.Changes.{zeros}
 use Rattle.program_law.specs.declared.Square.{Square}
 use Rattle.mps_tokens.specs.declared.fault.NumberFault.{NumberFault}
-use Rattle.cert_text.specs.declared.names.Axis.TheVariants.{Columns, Rows}
-use Rattle.cert_text.specs.Text.{names_on}
+use Rattle.cert_fields.specs.Fields.{behind, field}
+use Rattle.cert_fields.specs.Names.{names_on}
+use Rattle.cert_fields.specs.Numbers.{number_of}
 use Rattle.certificate_law.specs.Nodes.{IsOneTree}
 use Rattle.certificate_law.specs.declared.Node.{Node}
 use Rattle.certificate_law.specs.declared.Node.TheVariants as nodes
 use Rattle.certificate_law.specs.declared.Certificate.{Certificate}
 use Rattle.certificate_law.specs.declared.Certificate.TheVariants as certificates
 use Rattle.mps_tokens.specs.declared.words.CertificateWord.{CertificateWord}
-use Rattle.mps_tokens.specs.declared.words.CertificateWord.TheVariants as words
 use Rattle.cert_text.specs.declared.items.Item.{Item}
 use Rattle.cert_text.specs.declared.items.Item.TheVariants as items
 use Rattle.cert_text.specs.declared.items.Claim.{Claim}
 use Rattle.cert_text.specs.declared.items.Claim.TheVariants.{Optimal, Infeasible, Unbounded, NotConvex}
 use Rattle.cert_text.specs.declared.draft.Draft.{Draft}
-use Rattle.cert_text.specs.Numbers.{number_of}
-use Rattle.cert_text.specs.Faults.{field, word_of, behind}
+use Rattle.cert_text.specs.declared.items.Found.{Found}
+use Rattle.cert_text.specs.declared.grammar.Shape.{Shape}
+use Rattle.cert_text.specs.declared.grammar.Shape.TheVariants.{Bare, Number, Name, Entry}
+use Rattle.cert_text.specs.Grammar.{shape_of, item_from}
+use Rattle.cert_text.specs.Faults.{word_of}
 
 -- ---- the item of a line that has no fault
 
@@ -35,20 +38,16 @@ value_or (Err fault) default = default
 abbrev pub number : List ℕ → ℚ
 number bytes = value_or (number_of bytes) zero_ℚ
 
+-- what stands behind a word, by its shape
+abbrev pub found_in : Program → Shape → List (List ℕ) → Found
+found_in p Bare fields = record { place = 0; number = zero_ℚ }
+found_in p (Number allowed) fields = record { place = 0; number = number (field fields 0) }
+found_in p (Name axis) fields = record { place = place (names_on p axis) (field fields 0); number = zero_ℚ }
+found_in p (Entry axis allowed) fields = record { place = place (names_on p axis) (field fields 0); number = number (field fields 1) }
+
 abbrev pub item_with : Program → Option CertificateWord → List (List ℕ) → Item
-item_with p (Some words.Value) fields = items.Value (number (field fields 0))
-item_with p (Some words.Point) fields = items.Point (place (names_on p Columns) (field fields 0)) (number (field fields 1))
-item_with p (Some words.Ray) fields = items.Ray (place (names_on p Columns) (field fields 0)) (number (field fields 1))
-item_with p (Some words.Vector) fields = items.Direction (place (names_on p Columns) (field fields 0)) (number (field fields 1))
-item_with p (Some words.Square) fields = items.Square (number (field fields 0))
-item_with p (Some words.Coef) fields = items.Coef (place (names_on p Columns) (field fields 0)) (number (field fields 1))
-item_with p (Some words.Branch) fields = items.Branch (place (names_on p Columns) (field fields 0)) (number (field fields 1)).num
-item_with p (Some words.Bound) fields = items.Bound
-item_with p (Some words.Farkas) fields = items.Farkas
-item_with p (Some words.Cross) fields = items.Cross (place (names_on p Columns) (field fields 0))
-item_with p (Some words.W) fields = items.W (place (names_on p Columns) (field fields 0)) (number (field fields 1))
-item_with p (Some words.Y) fields = items.Y (place (names_on p Rows) (field fields 0)) (number (field fields 1))
-item_with p word fields = items.End
+item_with p (Some word) fields = item_from word (found_in p (shape_of word) fields)
+item_with p None fields = items.End
 
 unfoldable pub item_of : Program → List (List ℕ) → Item
 item_of p parts = item_with p (word_of parts) (behind parts)

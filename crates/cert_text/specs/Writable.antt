@@ -7,7 +7,7 @@ use Rattle.certificate_law.specs.declared.Node.{Node}
 use Rattle.certificate_law.specs.declared.Node.TheVariants as nodes
 use Rattle.certificate_law.specs.declared.Certificate.{Certificate}
 use Rattle.certificate_law.specs.declared.Certificate.TheVariants.{Optimal, Infeasible, Unbounded, NotConvex}
-use Rattle.check_law.specs.Fits as certificates
+use Rattle.cert_check_law.specs.Fits as certificates
 use Rattle.rational.specs.Rational.{ℚ, Fits}
 use Rattle.frac_core.specs.Parts.{max_part}
 

@@ -2,6 +2,7 @@
 
 ghost use Rattle.std.specs.Prelude.{◌≡◌, IfOk, OnOk};
 ghost use Rattle.certificate_law.specs.Nodes.{IsOneTree};
+ghost use Rattle.certificate_law.specs.declared.Certificate.TheVariants as certificates;
 ghost use Rattle.program_law.specs.Changes.{zeros};
 ghost use Rattle.cert_text.specs.Told.{blank, with_item, certificate_told, IsTreeDue};
 
@@ -95,41 +96,21 @@ impl Draft {
         ensures { OnOk result (self.new ≡ with_item columns rows item self.old) }
     {
         match item {
-            Item::Value(value) => {
-                self.value = value;
-                Ok(())
-            }
-            Item::Point(column, value) => {
-                put_at(&mut self.point, column, value);
-                Ok(())
-            }
-            Item::Ray(column, value) => {
-                put_at(&mut self.ray, column, value);
-                Ok(())
-            }
-            Item::Direction(column, value) => {
-                put_at(&mut self.direction, column, value);
-                Ok(())
-            }
-            Item::Square(weight) => self.begin_square(alloc, columns, weight),
-            Item::Coef(column, value) => {
-                self.squares.put(column, value);
-                Ok(())
-            }
-            Item::Branch(column, k) => self.nodes.push(Node::Branch(column, k)),
-            Item::Bound => self.begin_bound(alloc, columns, rows),
-            Item::Farkas => self.begin_farkas(alloc, rows),
-            Item::Cross(column) => self.nodes.push(Node::Cross(column)),
-            Item::W(column, value) => {
-                self.nodes.put_w(column, value);
-                Ok(())
-            }
-            Item::Y(row, value) => {
-                self.nodes.put_y(row, value);
-                Ok(())
-            }
-            Item::End => Ok(()),
+            Item::Value(value) => self.value = value,
+            Item::Point(column, value) => put_at(&mut self.point, column, value),
+            Item::Ray(column, value) => put_at(&mut self.ray, column, value),
+            Item::Direction(column, value) => put_at(&mut self.direction, column, value),
+            Item::Square(weight) => self.begin_square(alloc, columns, weight)?,
+            Item::Coef(column, value) => self.squares.put(column, value),
+            Item::Branch(column, k) => self.nodes.push(Node::Branch(column, k))?,
+            Item::Bound => self.begin_bound(alloc, columns, rows)?,
+            Item::Farkas => self.begin_farkas(alloc, rows)?,
+            Item::Cross(column) => self.nodes.push(Node::Cross(column))?,
+            Item::W(column, value) => self.nodes.put_w(column, value),
+            Item::Y(row, value) => self.nodes.put_y(row, value),
+            Item::End => {}
         }
+        Ok(())
     }
 
     /// The certificate that is told.
@@ -137,21 +118,52 @@ impl Draft {
         requires { IsTreeDue claim self.nodes }
         ensures { IfOk result (λ c. c ≡ certificate_told claim self) }
     {
+        let Draft {
+            point,
+            ray,
+            direction,
+            value,
+            squares,
+            nodes,
+        } = self;
         match claim {
-            Claim::Optimal => {
-                let squares = self.squares.finish()?;
-                let tree = tree_of(self.nodes.finish()?);
-                Ok(Certificate::Optimal(self.point, self.value, squares, tree))
-            }
-            Claim::Infeasible => {
-                let tree = tree_of(self.nodes.finish()?);
-                Ok(Certificate::Infeasible(tree))
-            }
-            Claim::Unbounded => {
-                let squares = self.squares.finish()?;
-                Ok(Certificate::Unbounded(self.point, self.ray, squares))
-            }
-            Claim::NotConvex => Ok(Certificate::NotConvex(self.direction)),
+            Claim::Optimal => optimal(point, value, squares, nodes),
+            Claim::Infeasible => infeasible(nodes),
+            Claim::Unbounded => unbounded(point, ray, squares),
+            Claim::NotConvex => Ok(Certificate::NotConvex(direction)),
         }
     }
+}
+
+fn optimal(
+    point: Vector<Frac>,
+    value: Frac,
+    squares: SquareList,
+    nodes: NodeList,
+) -> Result<Certificate, Memory>
+    requires { IsOneTree nodes }
+    ensures { IfOk result (λ c. c ≡ certificates.Optimal point value squares nodes) }
+{
+    let squares = squares.finish()?;
+    let tree = tree_of(nodes.finish()?);
+    Ok(Certificate::Optimal(point, value, squares, tree))
+}
+
+fn infeasible(nodes: NodeList) -> Result<Certificate, Memory>
+    requires { IsOneTree nodes }
+    ensures { IfOk result (λ c. c ≡ certificates.Infeasible nodes) }
+{
+    let tree = tree_of(nodes.finish()?);
+    Ok(Certificate::Infeasible(tree))
+}
+
+fn unbounded(
+    point: Vector<Frac>,
+    ray: Vector<Frac>,
+    squares: SquareList,
+) -> Result<Certificate, Memory>
+    ensures { IfOk result (λ c. c ≡ certificates.Unbounded point ray squares) }
+{
+    let squares = squares.finish()?;
+    Ok(Certificate::Unbounded(point, ray, squares))
 }

@@ -1,29 +1,20 @@
 // The fields of a line behind its word.
 
 ghost use Rattle.std.specs.Prelude.{◌≡◌, Some};
-ghost use Rattle.cert_text.specs.Parts.{parts_of};
-ghost use Rattle.cert_text.specs.Text.{names_on};
-ghost use Rattle.cert_text.specs.Faults.{behind, allows, is_early};
+ghost use Rattle.cert_fields.specs.Parts.{parts_of};
+ghost use Rattle.cert_fields.specs.Fields.{behind};
+ghost use Rattle.cert_fields.specs.Names.{names_on};
+ghost use Rattle.cert_text.specs.Faults.{allows, is_early};
 ghost use Rattle.cert_text.specs.Entered.{ReadsBare, ReadsNumber, ReadsName, ReadsEntry};
 
+use crate::grammar::Allowed;
 use crate::kinds::CertKind;
-use crate::names::{Axis, find_on};
-use crate::numbers::number;
 use crate::places::Place;
-use crate::splitting::{is_one_part, last_two_parts, second_part};
+use cert_fields::{Axis, find_on, is_one_part, last_two_parts, number, second_part};
 use check_steps::{is_positive, is_zero};
 use frac_core::Frac;
 use mps_tokens::{CertificateWord, NumberFault};
 use program_model::Program;
-
-/// Which numbers a line may have.
-#[derive(Clone, Copy)]
-pub(crate) enum Allowed {
-    Any,
-    NotZero,
-    Positive,
-    Whole,
-}
 
 impl Allowed {
     fn allows(self, value: Frac) -> bool
@@ -78,14 +69,15 @@ pub(crate) fn read_number(
     Ok(value)
 }
 
-/// The column of a line of a word and a column.
+/// The column or row of a line of a word and a name.
 pub(crate) fn read_name(
     p: &Program,
+    axis: Axis,
     place: Place,
     word: CertificateWord,
     line: &[u8],
 ) -> Result<u32, CertKind>
-    ensures { ReadsName place word (names_on p.now Axis.Columns) (behind (parts_of line.now)) result }
+    ensures { ReadsName place word (names_on p.now axis) (behind (parts_of line.now)) result }
 {
     if !place.may_stand(word) {
         return Err(CertKind::CertLine);
@@ -93,10 +85,7 @@ pub(crate) fn read_name(
     let Some(name) = second_part(line) else {
         return Err(CertKind::CertLine);
     };
-    let Some(column) = find_on(p, Axis::Columns, name) else {
-        return Err(CertKind::CertName);
-    };
-    Ok(column)
+    find_on(p, axis, name).ok_or(CertKind::CertName)
 }
 
 fn is_early(least: u64, found: u32) -> bool

@@ -1,22 +1,15 @@
 // Laws of the text.
 
-ghost use Rattle.std.specs.Prelude.{◌≡◌, ℕ, List, Ok};
-ghost use Rattle.rational.specs.Rational.{ℚ, Fits};
-ghost use Rattle.frac_core.specs.Parts.{max_part};
-ghost use Rattle.frac_core.specs.Text.{text_of};
+ghost use Rattle.std.specs.Prelude.{◌≡◌, ◌≢◌, ◌≤◌, ◌+◌, ◌-◌, ℕ, List, Ok, Err, length};
 ghost use Rattle.program_law.specs.Program.{Program, IsProgram};
 ghost use Rattle.certificate_law.specs.declared.Certificate.{Certificate};
-ghost use Rattle.cert_text.specs.Numbers.{number_of};
+ghost use Rattle.cert_fields.specs.Parts.{pieces_of};
+ghost use Rattle.cert_text.specs.declared.kinds.CertKind.{CertKind};
+ghost use Rattle.cert_text.specs.declared.kinds.CertKind.TheVariants as kinds;
+ghost use Rattle.cert_text.specs.Fronts.{Begins, IsFront, first_lines};
 ghost use Rattle.cert_text.specs.Text.{certificate_text};
 ghost use Rattle.cert_text.specs.Reading.{read_of};
 ghost use Rattle.cert_text.specs.Writable.{IsWritable, NumbersFit};
-
-/// What is written of a number that fits is read as that number, and what is read as a number is what is written of it.
-pub fn numbers_are_read_back()
-    ensures back { (v : ℚ) → Fits max_part v → number_of (text_of v) ≡ Ok v }
-    ensures text { (bytes : List ℕ) (v : ℚ) → number_of bytes ≡ Ok v → text_of v ≡ bytes }
-    ensures fits { (bytes : List ℕ) (v : ℚ) → number_of bytes ≡ Ok v → Fits max_part v }
-{}
 
 /// The text of a certificate is read as that certificate, whatever number its first line has. So it is the text of no other. And a
 /// text that is read as a certificate is the text of that one.
@@ -29,4 +22,19 @@ pub fn texts_are_read_back()
         certificate_text p c ≡ text }
     ensures writable { (p : Program) (line : ℕ) (text : List ℕ) (c : Certificate) → read_of p line text ≡ Ok c →
         IsWritable p c }
+{}
+
+/// The line at which a text leaves the grammar is the first that no certificate's text begins with: the lines before it are
+/// the front of one's text, and with it they are the front of none. At `CertEnd` there is no such line: all lines of the
+/// text, that is all that end with a line feed, are the front of one's text.
+pub fn faults_leave_the_grammar()
+    ensures within { (p : Program) (line : ℕ) (text : List ℕ) (at : ℕ) (kind : CertKind) → read_of p line text ≡ Err (at, kind) →
+        line ≤ at }
+    ensures before { (p : Program) (line : ℕ) (text : List ℕ) (at : ℕ) (kind : CertKind) → read_of p line text ≡ Err (at, kind) →
+        IsFront p (first_lines (at - line) text) }
+    ensures with { (p : Program) (line : ℕ) (text : List ℕ) (at : ℕ) (kind : CertKind) (c : Certificate) → IsProgram p →
+        read_of p line text ≡ Err (at, kind) → kind ≢ kinds.CertEnd → IsWritable p c → NumbersFit c →
+        Begins p c (first_lines (at - line + 1) text) → ⊥ }
+    ensures end { (p : Program) (line : ℕ) (text : List ℕ) (at : ℕ) → read_of p line text ≡ Err (at, kinds.CertEnd) →
+        length (pieces_of text) ≤ at - line + 1 }
 {}

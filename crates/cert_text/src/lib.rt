@@ -3,20 +3,18 @@
 
 mod draft;
 mod fields;
+mod grammar;
 mod items;
 mod kinds;
 mod laws;
 mod line;
-mod lines;
-mod names;
-mod numbers;
 mod openings;
 mod places;
 mod reading;
-mod splitting;
 mod writing;
 
+pub use cert_fields::numbers_are_read_back;
 pub use kinds::{CertKind, CertStop};
-pub use laws::{numbers_are_read_back, texts_are_read_back};
+pub use laws::{faults_leave_the_grammar, texts_are_read_back};
 pub use reading::read_certificate;
 pub use writing::write_certificate;

@@ -1,122 +1,43 @@
 // A line of a certificate.
 
 ghost use Rattle.std.specs.Prelude.{◌≡◌};
-ghost use Rattle.mps_tokens.specs.declared.words.CertificateWord.TheVariants as words;
-ghost use Rattle.cert_text.specs.Parts.{parts_of};
-ghost use Rattle.cert_text.specs.Faults.{behind};
-ghost use Rattle.cert_text.specs.Entered.{ReadsWord, ReadsLine};
+ghost use Rattle.cert_fields.specs.Parts.{parts_of};
+ghost use Rattle.cert_fields.specs.Fields.{behind};
+ghost use Rattle.cert_text.specs.Entered.{ReadsFound, ReadsLine};
 
-use crate::fields::{Allowed, read_bare, read_entry, read_name, read_number};
-use crate::items::Item;
+use crate::fields::{read_bare, read_entry, read_name, read_number};
+use crate::grammar::{Shape, shape_of};
+use crate::items::{Found, Item};
 use crate::kinds::CertKind;
-use crate::names::Axis;
 use crate::places::Place;
-use crate::splitting::first_part;
+use cert_fields::first_part;
+use frac_core::Frac;
 use mps_tokens::{CertificateWord, certificate_word_of};
 use program_model::Program;
 
-/// The item of a line with a word.
-fn read_word(
+/// What stands behind the word of a line of a shape.
+fn read_found(
     p: &Program,
     place: Place,
     word: CertificateWord,
+    shape: Shape,
     line: &[u8],
-) -> Result<Item, CertKind>
-    ensures { ReadsWord p.now place word (behind (parts_of line.now)) result }
+) -> Result<Found, CertKind>
+    ensures { ReadsFound p.now place word shape (behind (parts_of line.now)) result }
 {
-    match word {
-        CertificateWord::Value => {
-            let value = read_number(place, word, Allowed::Any, line)?;
-            Ok(Item::Value(value))
+    let mut found = Found {
+        place: 0,
+        number: Frac::whole(0),
+    };
+    match shape {
+        Shape::Bare => read_bare(place, word, line)?,
+        Shape::Number(allowed) => found.number = read_number(place, word, allowed, line)?,
+        Shape::Name(axis) => found.place = read_name(p, axis, place, word, line)?,
+        Shape::Entry(axis, allowed) => {
+            (found.place, found.number) = read_entry(p, axis, place, word, allowed, line)?;
         }
-        CertificateWord::Point => {
-            let (column, value) = read_entry(
-                p,
-                Axis::Columns,
-                place,
-                word,
-                Allowed::NotZero,
-                line,
-            )?;
-            Ok(Item::Point(column, value))
-        }
-        CertificateWord::Ray => {
-            let (column, value) = read_entry(
-                p,
-                Axis::Columns,
-                place,
-                word,
-                Allowed::NotZero,
-                line,
-            )?;
-            Ok(Item::Ray(column, value))
-        }
-        CertificateWord::Vector => {
-            let (column, value) = read_entry(
-                p,
-                Axis::Columns,
-                place,
-                word,
-                Allowed::NotZero,
-                line,
-            )?;
-            Ok(Item::Direction(column, value))
-        }
-        CertificateWord::Square => {
-            let weight = read_number(place, word, Allowed::Positive, line)?;
-            Ok(Item::Square(weight))
-        }
-        CertificateWord::Coef => {
-            let (column, value) = read_entry(
-                p,
-                Axis::Columns,
-                place,
-                word,
-                Allowed::NotZero,
-                line,
-            )?;
-            Ok(Item::Coef(column, value))
-        }
-        CertificateWord::Branch => {
-            let (column, k) = read_entry(p, Axis::Columns, place, word, Allowed::Whole, line)?;
-            Ok(Item::Branch(column, k.num()))
-        }
-        CertificateWord::Bound => {
-            read_bare(place, word, line)?;
-            Ok(Item::Bound)
-        }
-        CertificateWord::Farkas => {
-            read_bare(place, word, line)?;
-            Ok(Item::Farkas)
-        }
-        CertificateWord::Cross => {
-            let column = read_name(p, place, word, line)?;
-            Ok(Item::Cross(column))
-        }
-        CertificateWord::W => {
-            let (column, value) = read_entry(
-                p,
-                Axis::Columns,
-                place,
-                word,
-                Allowed::NotZero,
-                line,
-            )?;
-            Ok(Item::W(column, value))
-        }
-        CertificateWord::Y => {
-            let (row, value) = read_entry(p, Axis::Rows, place, word, Allowed::NotZero, line)?;
-            Ok(Item::Y(row, value))
-        }
-        CertificateWord::End => {
-            read_bare(place, word, line)?;
-            Ok(Item::End)
-        }
-        CertificateWord::Optimal
-        | CertificateWord::Infeasible
-        | CertificateWord::Unbounded
-        | CertificateWord::NotConvex => Err(CertKind::CertLine),
     }
+    Ok(found)
 }
 
 /// The item of a line.
@@ -124,8 +45,9 @@ fn read_word(
 pub(crate) fn read_line(p: &Program, place: Place, line: &[u8]) -> Result<Item, CertKind>
     ensures { ReadsLine p.now place (parts_of line.now) result }
 {
-    match certificate_word_of(first_part(line)) {
-        Some(word) => read_word(p, place, word, line),
-        None => Err(CertKind::CertLine),
-    }
+    let Some(word) = certificate_word_of(first_part(line)) else {
+        return Err(CertKind::CertLine);
+    };
+    let found = read_found(p, place, word, shape_of(word), line)?;
+    Ok(Item::of(word, found))
 }

@@ -1,29 +1,11 @@
 // Where a line stands.
 
-ghost use Rattle.std.specs.Prelude.{◌≡◌, ◌+◌};
-ghost use Rattle.cert_text.specs.Places.{start, after, may_stand, least, is_one_too_many, wants_node, is_optimal, is_unbounded, is_value, is_points, is_rays, is_directions, is_squares, is_leaf_point, is_multipliers, is_ended, HasRoom, at, leaf};
+ghost use Rattle.std.specs.Prelude.{◌≡◌};
+ghost use Rattle.cert_text.specs.Places.{start, after, counted, may_stand, part_behind, least, is_one_too_many, is_ended, HasRoom};
 
+use crate::grammar::{Part, follows, is_due};
 use crate::items::{Claim, Item};
 use mps_tokens::CertificateWord;
-
-/// The part of a certificate that a line stands in, by the word of the line before.
-#[derive(Clone, Copy, Debug, PartialEq, Eq)]
-pub(crate) enum Part {
-    /// Before the line VALUE.
-    Value,
-    Points,
-    Rays,
-    Directions,
-    Squares,
-    /// After a BRANCH or CROSS line, or before the first node.
-    Nodes,
-    /// After a BOUND or W line.
-    LeafPoint,
-    /// After a FARKAS or Y line.
-    Multipliers,
-    /// After END.
-    Ended,
-}
 
 /// Where a line stands, by the words of the lines before it, and what they leave for it.
 #[derive(Clone, Copy)]
@@ -36,70 +18,6 @@ pub(crate) struct Place {
     pub next: u64,
     pub squares: u64,
     pub branches: u64,
-}
-
-impl Claim {
-    fn is_optimal(self) -> bool
-        ensures { result ≡ is_optimal self }
-    {
-        matches!(self, Claim::Optimal)
-    }
-
-    fn is_unbounded(self) -> bool
-        ensures { result ≡ is_unbounded self }
-    {
-        matches!(self, Claim::Unbounded)
-    }
-}
-
-impl Part {
-    fn is_value(self) -> bool
-        ensures { result ≡ is_value self }
-    {
-        matches!(self, Part::Value)
-    }
-
-    fn is_points(self) -> bool
-        ensures { result ≡ is_points self }
-    {
-        matches!(self, Part::Points)
-    }
-
-    fn is_rays(self) -> bool
-        ensures { result ≡ is_rays self }
-    {
-        matches!(self, Part::Rays)
-    }
-
-    fn is_directions(self) -> bool
-        ensures { result ≡ is_directions self }
-    {
-        matches!(self, Part::Directions)
-    }
-
-    fn is_squares(self) -> bool
-        ensures { result ≡ is_squares self }
-    {
-        matches!(self, Part::Squares)
-    }
-
-    fn is_leaf_point(self) -> bool
-        ensures { result ≡ is_leaf_point self }
-    {
-        matches!(self, Part::LeafPoint)
-    }
-
-    fn is_multipliers(self) -> bool
-        ensures { result ≡ is_multipliers self }
-    {
-        matches!(self, Part::Multipliers)
-    }
-
-    pub(crate) fn is_ended(self) -> bool
-        ensures { result ≡ is_ended self }
-    {
-        matches!(self, Part::Ended)
-    }
 }
 
 impl Place {
@@ -123,56 +41,28 @@ impl Place {
         }
     }
 
-    /// Whether a node of a tree may stand here.
-    fn wants_node(self) -> bool
-        ensures { result ≡ wants_node self }
+    /// Whether no line may stand here.
+    pub(crate) fn is_ended(self) -> bool
+        ensures { result ≡ is_ended self.part }
     {
-        0 < self.wanted && !self.part.is_value()
+        matches!(self.part, Part::Ended)
     }
 
     /// Whether a line with this word may stand here.
     pub(crate) fn may_stand(self, word: CertificateWord) -> bool
         ensures { result ≡ may_stand self word }
     {
-        match word {
-            CertificateWord::Value => self.part.is_value(),
-            CertificateWord::Point => self.part.is_points(),
-            CertificateWord::Ray => {
-                self.part.is_rays() || (self.part.is_points() && self.claim.is_unbounded())
-            }
-            CertificateWord::Vector => self.part.is_directions(),
-            CertificateWord::Square => {
-                self.part.is_points() || self.part.is_rays() || self.part.is_squares()
-            }
-            CertificateWord::Coef => self.part.is_squares(),
-            CertificateWord::Bound => self.wants_node() && self.claim.is_optimal(),
-            CertificateWord::Branch | CertificateWord::Farkas | CertificateWord::Cross => {
-                self.wants_node()
-            }
-            CertificateWord::W => self.part.is_leaf_point(),
-            CertificateWord::Y => self.part.is_leaf_point() || self.part.is_multipliers(),
-            CertificateWord::End => self.wanted == 0,
-            CertificateWord::Optimal
-            | CertificateWord::Infeasible
-            | CertificateWord::Unbounded
-            | CertificateWord::NotConvex => false,
-        }
+        follows(self.claim, self.part, word).is_some() && is_due(word, self.wanted)
     }
 
     /// The least place that an entry with this word may have.
     pub(crate) fn least(self, word: CertificateWord) -> u64
         ensures { result ≡ least self word }
     {
-        match word {
-            CertificateWord::Ray => { if self.part.is_rays() { self.next } else { 0 } }
-            CertificateWord::Y => {
-                if self.part.is_multipliers() {
-                    self.next
-                } else {
-                    0
-                }
-            }
-            CertificateWord::Branch => 0,
+        match (self.part, word) {
+            (Part::Points, CertificateWord::Ray)
+            | (Part::LeafPoint, CertificateWord::Y)
+            | (_, CertificateWord::Branch) => 0,
             _ => self.next,
         }
     }
@@ -188,42 +78,26 @@ impl Place {
         }
     }
 
-    fn at(self, part: Part, next: u64) -> Place
-        ensures { result ≡ at part next self }
+    /// The part behind a line with this word.
+    fn part_behind(self, word: CertificateWord) -> Part
+        ensures { result ≡ part_behind self word }
     {
-        Place { part, next, ..self }
+        match follows(self.claim, self.part, word) {
+            Some(part) => part,
+            None => self.part,
+        }
     }
 
-    /// The place behind an entry.
-    fn entry(self, part: Part, place: u32) -> Place
-        ensures { result ≡ at part (place + 1) self }
-    {
-        self.at(part, u64::from(place) + 1)
-    }
-
-    /// The place behind a leaf's first line.
-    fn leaf(self, part: Part) -> Place
-        ensures { result ≡ at part 0 (leaf self) }
-    {
-        let wanted = self.wanted.saturating_sub(1);
-        Place { wanted, ..self }.at(part, 0)
-    }
-
-    /// The place behind a line. There is room in the counts.
-    pub(crate) fn after(self, item: &Item) -> Place
+    /// With a line counted. There is room in the counts.
+    fn counted(self, item: &Item) -> Place
         requires { HasRoom self }
-        ensures { result ≡ after self item.now }
+        ensures { result ≡ counted item.now self }
     {
         match item {
-            Item::Value(_) => self.at(Part::Points, 0),
-            Item::Point(place, _) => self.entry(Part::Points, *place),
-            Item::Ray(place, _) => self.entry(Part::Rays, *place),
-            Item::Direction(place, _) => self.entry(Part::Directions, *place),
             Item::Square(_) => {
                 let squares = self.squares + 1;
-                Place { squares, ..self }.at(Part::Squares, 0)
+                Place { squares, ..self }
             }
-            Item::Coef(place, _) => self.entry(Part::Squares, *place),
             Item::Branch(_, _) => {
                 let wanted = self.wanted + 1;
                 let branches = self.branches + 1;
@@ -232,14 +106,26 @@ impl Place {
                     branches,
                     ..self
                 }
-                .at(Part::Nodes, 0)
             }
-            Item::Bound => self.leaf(Part::LeafPoint),
-            Item::Farkas => self.leaf(Part::Multipliers),
-            Item::Cross(_) => self.leaf(Part::Nodes),
-            Item::W(place, _) => self.entry(Part::LeafPoint, *place),
-            Item::Y(place, _) => self.entry(Part::Multipliers, *place),
-            Item::End => self.at(Part::Ended, 0),
+            Item::Bound | Item::Farkas | Item::Cross(_) => {
+                let wanted = self.wanted.saturating_sub(1);
+                Place { wanted, ..self }
+            }
+            _ => self,
+        }
+    }
+
+    /// The place behind a line. There is room in the counts.
+    pub(crate) fn after(self, item: &Item) -> Place
+        requires { HasRoom self }
+        ensures { result ≡ after self item.now }
+    {
+        let part = self.part_behind(item.word());
+        let next = item.next_place();
+        Place {
+            part,
+            next,
+            ..self.counted(item)
         }
     }
 }

@@ -1,7 +1,9 @@
 // The certificate of a text.
 
 ghost use Rattle.std.specs.Prelude.{◌≡◌, ◌≤◌, ◌^◌, ◌+◌, [], length, IfOk};
-ghost use Rattle.cert_text.specs.Parts.{pieces_of};
+ghost use Rattle.cert_fields.specs.Parts.{pieces_of};
+ghost use Rattle.cert_text.specs.Told.{blank};
+ghost use Rattle.cert_text.specs.Filled.{Fills};
 ghost use Rattle.cert_text.specs.Reading.{claim_in, read_on, read_of, Reads};
 ghost use Rattle.cert_text.specs.Text.{certificate_text};
 ghost use Rattle.cert_text.specs.Writable.{IsWritable};
@@ -11,7 +13,7 @@ use crate::items::Claim;
 use crate::kinds::{CertKind, CertStop};
 use crate::line::read_line;
 use crate::places::Place;
-use crate::splitting::split_line;
+use cert_fields::split_line;
 use certificate_law::Certificate;
 use mps_tokens::{CertificateWord, certificate_word_of};
 use program_model::Program;
@@ -31,25 +33,26 @@ fn claim_in(line: &[u8]) -> Option<Claim>
     }
 }
 
-/// The certificate with this claim, of the lines behind the first.
-fn read_claimed(
+/// What the lines behind the first tell is put into a draft, up to END with nothing behind it.
+fn read_lines(
     alloc: Global,
     p: &Program,
     claim: Claim,
     text: &[u8],
     line: u32,
-) -> Result<Certificate, CertStop>
+    draft: &mut Draft,
+) -> Result<(), CertStop>
     requires text { length text.now ≤ 2 ^ 30 }
     requires line { line ≤ 2 ^ 31 + 1 }
-    ensures { Reads (read_on p.now claim line [] (pieces_of text.now)) result }
+    requires draft { draft.old ≡ blank (length p.now.columns) }
+    ensures { Fills (read_on p.now claim line [] (pieces_of text.now)) claim draft.new result }
 {
     let columns = p.columns();
     let rows = p.rows();
-    let mut draft = Draft::start(alloc, columns)?;
     let mut place = Place::start(claim);
     let mut rest = text;
     let mut line = line;
-    'lines: while !place.part.is_ended() {
+    'lines: while !place.is_ended() {
         let Some((first, others)) = split_line(rest) else {
             let kind = CertKind::CertEnd;
             return Err(CertStop::Fault { line, kind });
@@ -67,6 +70,23 @@ fn read_claimed(
         let kind = CertKind::CertAfter;
         return Err(CertStop::Fault { line, kind });
     }
+    Ok(())
+}
+
+/// The certificate with this claim, of the lines behind the first.
+fn read_claimed(
+    alloc: Global,
+    p: &Program,
+    claim: Claim,
+    text: &[u8],
+    line: u32,
+) -> Result<Certificate, CertStop>
+    requires text { length text.now ≤ 2 ^ 30 }
+    requires line { line ≤ 2 ^ 31 + 1 }
+    ensures { Reads (read_on p.now claim line [] (pieces_of text.now)) result }
+{
+    let mut draft = Draft::start(alloc, p.columns())?;
+    read_lines(alloc, p, claim, text, line, &mut draft)?;
     let certificate = draft.finish(claim)?;
     Ok(certificate)
 }

@@ -2,13 +2,13 @@
 
 ghost use Rattle.std.specs.Prelude.{◌≡◌, ◌<◌, ◌≤◌, length, OnOk, OnErr, ◌++◌};
 ghost use Rattle.std.specs.List.{flat_map, AllByRecursion};
-ghost use Rattle.check_law.specs.Fits.{FitsNode, IsColumnVector, IsRowVector};
-ghost use Rattle.cert_text.specs.Appending.{Appends};
-ghost use Rattle.cert_text.specs.Text.{names_on, lines_text, entry_line, entry_lines, count_on, name_at, square_lines, node_lines, certificate_lines, certificate_text};
+ghost use Rattle.cert_check_law.specs.Fits.{FitsNode, IsColumnVector, IsRowVector};
+ghost use Rattle.cert_fields.specs.Appending.{Appends};
+ghost use Rattle.cert_fields.specs.Names.{names_on, count_on, name_at};
+ghost use Rattle.cert_text.specs.Text.{lines_text, entry_line, entry_lines, square_lines, node_lines, end_line, best_lines, ray_lines, certificate_lines, certificate_text};
 ghost use Rattle.cert_text.specs.Writable.{IsWritable};
 
-use crate::lines::{put_branch, put_entry, put_name, put_number, put_word};
-use crate::names::{Axis, count_on, name_on};
+use cert_fields::{Axis, count_on, name_on, put_entry, put_name, put_number, put_whole, put_word};
 use certificate_law::{Certificate, Node, Tree};
 use check_steps::is_zero;
 use frac_core::{Frac, Memory, Vector};
@@ -120,7 +120,9 @@ fn write_node(p: &Program, node: &Node, out: &mut Vec<u8>, text: &mut String) ->
     ensures { Appends out.old.items out.new.items (lines_text (node_lines p.now node.now)) result }
 {
     match node {
-        Node::Branch(column, k) => { put_branch(out, text, name_on(p, Axis::Columns, *column), *k) }
+        Node::Branch(column, k) => {
+            put_whole(out, text, b"BRANCH", name_on(p, Axis::Columns, *column), *k)
+        }
         Node::Bound(w, y) => write_bound(p, w, y, out, text),
         Node::Farkas(y) => write_farkas(p, y, out, text),
         Node::Cross(column) => put_name(out, b"CROSS", name_on(p, Axis::Columns, *column)),
@@ -138,6 +140,39 @@ fn write_tree(p: &Program, tree: &Tree, out: &mut Vec<u8>, text: &mut String) ->
     Ok(())
 }
 
+/// Appends the lines of a tree and END.
+fn write_tree_to_end(
+    p: &Program,
+    tree: &Tree,
+    out: &mut Vec<u8>,
+    text: &mut String,
+) -> Result<(), Memory>
+    requires { AllByRecursion (FitsNode p.now) tree.now }
+    ensures { Appends out.old.items out.new.items (lines_text (flat_map (node_lines p.now) tree.now ++ end_line)) result }
+{
+    write_tree(p, tree, out, text)?;
+    put_word(out, b"END")
+}
+
+/// Appends the lines of a point, squares and a tree, and END.
+fn write_best(
+    p: &Program,
+    point: &Vector<Frac>,
+    squares: &Squares,
+    tree: &Tree,
+    out: &mut Vec<u8>,
+    text: &mut String,
+) -> Result<(), Memory>
+    requires point { IsColumnVector p.now point.now }
+    requires squares { AllByRecursion (λ s. IsColumnVector p.now s.coef) squares.now }
+    requires tree { AllByRecursion (FitsNode p.now) tree.now }
+    ensures { Appends out.old.items out.new.items (lines_text (best_lines p.now point.now squares.now tree.now)) result }
+{
+    write_entries(p, Axis::Columns, b"POINT", point, out, text)?;
+    write_squares(p, squares, out, text)?;
+    write_tree_to_end(p, tree, out, text)
+}
+
 /// Appends the lines of a certificate with a point that is best.
 fn write_optimal(
     p: &Program,
@@ -153,10 +188,7 @@ fn write_optimal(
 {
     put_word(out, b"OPTIMAL")?;
     put_number(out, text, b"VALUE", value)?;
-    write_entries(p, Axis::Columns, b"POINT", point, out, text)?;
-    write_squares(p, squares, out, text)?;
-    write_tree(p, tree, out, text)?;
-    put_word(out, b"END")
+    write_best(p, point, squares, tree, out, text)
 }
 
 /// Appends the lines of a certificate with a tree that leaves no point.
@@ -170,7 +202,23 @@ fn write_infeasible(
     ensures { Appends out.old.items out.new.items (lines_text (certificate_lines p.now (Certificate.Infeasible tree.now))) result }
 {
     put_word(out, b"INFEASIBLE")?;
-    write_tree(p, tree, out, text)?;
+    write_tree_to_end(p, tree, out, text)
+}
+
+/// Appends the lines of a ray and squares, and END.
+fn write_ray(
+    p: &Program,
+    ray: &Vector<Frac>,
+    squares: &Squares,
+    out: &mut Vec<u8>,
+    text: &mut String,
+) -> Result<(), Memory>
+    requires ray { IsColumnVector p.now ray.now }
+    requires squares { AllByRecursion (λ s. IsColumnVector p.now s.coef) squares.now }
+    ensures { Appends out.old.items out.new.items (lines_text (ray_lines p.now ray.now squares.now)) result }
+{
+    write_entries(p, Axis::Columns, b"RAY", ray, out, text)?;
+    write_squares(p, squares, out, text)?;
     put_word(out, b"END")
 }
 
@@ -188,9 +236,7 @@ fn write_unbounded(
 {
     put_word(out, b"UNBOUNDED")?;
     write_entries(p, Axis::Columns, b"POINT", point, out, text)?;
-    write_entries(p, Axis::Columns, b"RAY", ray, out, text)?;
-    write_squares(p, squares, out, text)?;
-    put_word(out, b"END")
+    write_ray(p, ray, squares, out, text)
 }
 
 /// Appends the lines of a certificate with a vector whose form is negative.

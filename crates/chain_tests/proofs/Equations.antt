@@ -7,7 +7,7 @@ use Rattle.rational.specs.Rational.{ℚ, zero_ℚ, whole}
 use Rattle.rational.specs.Order.{◌≤ℚ◌}
 use Rattle.rational.proofs.Order.{whole_nonneg}
 use Rattle.exact_matrix.specs.Grid.{Grid, rows_of}
-use Rattle.basis_law.specs.Problem.{IsProblem}
+use Rattle.linear_basis_law.specs.Problem.{IsProblem}
 use Rattle.linear_basis.specs.Kept.{problem}
 
 pub two_equations : (m : Grid ℚ) (c : ℕ) (xs r s : List ℚ) (x y : ℕ) → length xs ≡ 2 * c → m ≡ record { columns = c; rows = rows_of c 2 xs } →

@@ -14,12 +14,12 @@ use Rattle.rational.proofs.Vectors.{dot-scale_left, entry-column, entry-rows_dot
 use Rattle.exact_matrix.specs.Grid as grids
 use Rattle.exact_matrix.specs.Grid.{Grid}
 use Rattle.exact_matrix.proofs.EliminationVectors.{rows_dot-unit}
-use Rattle.basis_law.specs.Problem.{IsProblem, width, column_of}
-use Rattle.basis_law.specs.Basis.{IsBasis, unit_basis}
-use Rattle.basis_law.specs.Exchange.{coordinates, exchanged}
-use Rattle.basis_law.proofs.Bases.{column_of-given, length-column_of}
-use Rattle.basis_law.proofs.Changes.{exchange_basis, row_place}
-use Rattle.basis_law.proofs.Units.{units_basis}
+use Rattle.linear_basis_law.specs.Problem.{IsProblem, width, column_of}
+use Rattle.linear_basis_law.specs.Basis.{IsBasis, unit_basis}
+use Rattle.linear_basis_law.specs.Exchange.{coordinates, exchanged}
+use Rattle.linear_basis_law.proofs.Bases.{column_of-given, length-column_of}
+use Rattle.linear_basis_law.proofs.Changes.{exchange_basis, row_place}
+use Rattle.linear_basis_law.proofs.Units.{units_basis}
 use Rattle.linear_basis.specs.Kept.{Kept, kept, problem, tableau}
 
 row_at_is : (rows : List (List ℚ)) (k : ℕ) → row_at rows k ≡ slice_index_or rows k []

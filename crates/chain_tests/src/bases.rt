@@ -3,9 +3,9 @@
 ghost use Rattle.std.specs.Prelude.{◌≡◌, ◌<◌, ◌^◌, length, true, IfOk};
 ghost use Rattle.rational.specs.Rational.{zero_ℚ};
 ghost use Rattle.rational.specs.Sums.{entry};
-ghost use Rattle.basis_law.specs.Basis.{IsBasis};
-ghost use Rattle.basis_law.specs.Exchange.{coordinates, exchanged};
-ghost use Rattle.basis_law.specs.Problem.{height, width, IsProblem};
+ghost use Rattle.linear_basis_law.specs.Basis.{IsBasis};
+ghost use Rattle.linear_basis_law.specs.Exchange.{coordinates, exchanged};
+ghost use Rattle.linear_basis_law.specs.Problem.{height, width, IsProblem};
 ghost use Rattle.linear_basis.specs.Kept.{kept, problem, tableau};
 
 use exact_matrix::{Matrix, Stop};

@@ -4,15 +4,15 @@
 ghost use Rattle.std.specs.Prelude.{◌≡◌, ◌≢◌, ◌<◌, length, pos, slice_index_or};
 ghost use Rattle.rational.specs.Order.{same_fields};
 ghost use Rattle.program_law.specs.Tests.{is_zero, is_positive, is_negative, is_le};
-ghost use Rattle.check_law.specs.Chain.{answered, op, test};
+ghost use Rattle.cert_check_law.specs.Chain.{answered, op, test};
 ghost use Rattle.frac_core.specs.declared.fractions.Op.TheVariants as Op;
 ghost use Rattle.certificate_law.specs.Leaf.{side_for};
-ghost use Rattle.check_law.specs.Dot.{with_product, dot_from, dot_of};
-ghost use Rattle.check_law.specs.Leaf.{with_side};
-ghost use Rattle.check_law.specs.Point.{is_above_low, is_below_high, is_within, keeps_mark, row_within, column_within};
-ghost use Rattle.check_law.specs.Value.{row_product};
+ghost use Rattle.cert_check_law.specs.Dot.{with_product, dot_from, dot_of};
+ghost use Rattle.cert_check_law.specs.Leaf.{with_side};
+ghost use Rattle.cert_check_law.specs.Point.{is_above_low, is_below_high, is_within, keeps_mark, row_within, column_within};
+ghost use Rattle.cert_check_law.specs.Value.{row_product};
 
-use check_law::Event;
+use cert_check_law::Event;
 use frac_core::{Frac, Tried, Vector};
 use program_law::Row;
 use std::cmp::Ordering;
@@ -103,7 +103,7 @@ pub fn tested(holds: bool, rule: u8, place: u32) -> Result<(), Event>
 }
 
 /// The sum with the product of two entries. An entry 0 makes no operation.
-#[tactic(auto, unfolding(check_law::specs::Dot::with_product))]
+#[tactic(auto, unfolding(cert_check_law::specs::Dot::with_product))]
 pub fn product_added(total: Frac, a: Frac, b: Frac) -> Result<Frac, Event>
     ensures { result ≡ with_product total a b }
 {
@@ -170,7 +170,7 @@ pub fn side_of(y: Frac, sides: Row) -> Option<Frac>
 }
 
 /// The sum with a multiplier times its side, at a node of a tree. A multiplier 0 makes no operation and no test.
-#[tactic(auto, unfolding(check_law::specs::Leaf::with_side))]
+#[tactic(auto, unfolding(cert_check_law::specs::Leaf::with_side))]
 pub fn side_added(node: u32, total: Frac, y: Frac, sides: Row) -> Result<Frac, Event>
     ensures { result ≡ with_side node total y sides }
 {
@@ -222,7 +222,7 @@ pub fn whole_if(marked: bool, x: Frac) -> bool
 }
 
 /// The test that a row's sum at a point is within its sides.
-#[tactic(auto, unfolding(check_law::specs::Point::row_within))]
+#[tactic(auto, unfolding(cert_check_law::specs::Point::row_within))]
 pub fn row_tested(place: u32, sides: Row, row: &[Frac], x: &Vector<Frac>) -> Result<(), Event>
     requires { length row.now ≡ length x.now }
     ensures { result ≡ row_within place sides row.now x.now }
@@ -232,7 +232,7 @@ pub fn row_tested(place: u32, sides: Row, row: &[Frac], x: &Vector<Frac>) -> Res
 }
 
 /// The tests of a column's number: it is within its bounds, and whole where it is marked.
-#[tactic(auto, unfolding(check_law::specs::Point::column_within))]
+#[tactic(auto, unfolding(cert_check_law::specs::Point::column_within))]
 pub fn column_tested(place: u32, bounds: Row, marked: bool, x: Frac) -> Result<(), Event>
     ensures { result ≡ column_within place bounds marked x }
 {
@@ -241,7 +241,7 @@ pub fn column_tested(place: u32, bounds: Row, marked: bool, x: Frac) -> Result<(
 }
 
 /// A row of the form times a vector, and 0 where the row's own entry of the vector is 0.
-#[tactic(auto, unfolding(check_law::specs::Value::row_product))]
+#[tactic(auto, unfolding(cert_check_law::specs::Value::row_product))]
 pub fn row_product(row: &[Frac], own: Frac, x: &Vector<Frac>) -> Result<Frac, Event>
     requires { length row.now ≡ length x.now }
     ensures { result ≡ row_product row.now own x.now }

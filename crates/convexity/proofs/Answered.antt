@@ -10,7 +10,8 @@ use Rattle.exact_matrix.specs.declared.systems.Stop.TheVariants.{Memory, Past}
 use Rattle.convexity.specs.declared.Curvature.{Curvature}
 use Rattle.convexity.specs.declared.Curvature.TheVariants.{Squares, Negative}
 use Rattle.convexity.specs.Half.{upper_half}
-use Rattle.convexity.specs.Meaning.{AreFew, HasWidth, IsAnswer, IsAnswerOf, IsCurvatureOf}
+use Rattle.exact_matrix.specs.Stops.{Answers, IsAnswerOf}
+use Rattle.convexity.specs.Meaning.{AreFew, HasWidth, IsCurvatureOf}
 use Rattle.convexity.specs.Places.{answer_at, answer_found, squares_of_rows, IsReduced}
 use Rattle.convexity.specs.Reduction.{curvature_of}
 use Rattle.convexity.specs.ReductionCalculation.{squares_from, squares_of}
@@ -49,25 +50,25 @@ pub answer_past : (q half new : List (List ℚ)) (z : List ℚ) (r : Refused) �
 answer_past q half new z r e h = whole q half e ∙ h
 
 module _ (p : Program) (program : IsProgram p) where
-  pub operations_are : (result : Result Curvature Stop) → IsAnswer (squares_of p.pairs) result → IsAnswerOf (squares_ops p.pairs) result
+  pub operations_are : (result : Result Curvature Stop) → Answers (λ (c : Curvature). c) result (squares_of p.pairs) → IsAnswerOf (squares_ops p.pairs) result
   operations_are (Ok c) h = answer_is_within p.pairs c (program_symmetric p program) h
   operations_are (Err (Past r)) h = refusal_is_first p.pairs r (program_symmetric p program) h
   operations_are (Err Memory) h = tt
 
-  pub exact_is : (result : Result Curvature Stop) → IsAnswer (squares_of p.pairs) result → IfOk result (λ c. c ≡ curvature_of p.pairs)
+  pub exact_is : (result : Result Curvature Stop) → Answers (λ (c : Curvature). c) result (squares_of p.pairs) → IfOk result (λ c. c ≡ curvature_of p.pairs)
   exact_is (Ok c) h = answer_is_exact p.pairs c (program_symmetric p program) h
   exact_is (Err e) h = tt
 
-  pub right_is : (result : Result Curvature Stop) → IsAnswer (squares_of p.pairs) result → IfOk result (λ c. IsCurvatureOf p.pairs c)
+  pub right_is : (result : Result Curvature Stop) → Answers (λ (c : Curvature). c) result (squares_of p.pairs) → IfOk result (λ c. IsCurvatureOf p.pairs c)
   right_is (Ok c) h = subst (λ (c : Curvature). IsCurvatureOf p.pairs c) (sym (answer_is_exact p.pairs c (program_symmetric p program) h)) (curved p.pairs (program_symmetric p program))
   right_is (Err e) h = tt
 
-  pub width_is : (result : Result Curvature Stop) → IsAnswer (squares_of p.pairs) result → IfOk result (λ c. HasWidth (length p.columns) c)
+  pub width_is : (result : Result Curvature Stop) → Answers (λ (c : Curvature). c) result (squares_of p.pairs) → IfOk result (λ c. HasWidth (length p.columns) c)
   width_is (Ok c) h =
       subst (λ (n : ℕ). HasWidth n c) program.pairs_height
       (subst (λ (c : Curvature). HasWidth (length p.pairs) c) (sym (answer_is_exact p.pairs c (program_symmetric p program) h)) (curved_width p.pairs (program_symmetric p program)))
   width_is (Err e) h = tt
 
-  pub few_is : (result : Result Curvature Stop) → IsAnswer (squares_of p.pairs) result → IfOk result (AreFew (length p.columns))
+  pub few_is : (result : Result Curvature Stop) → Answers (λ (c : Curvature). c) result (squares_of p.pairs) → IfOk result (AreFew (length p.columns))
   few_is (Ok c) h = subst (λ (n : ℕ). AreFew n c) program.pairs_height (subst (AreFew (length p.pairs)) (sym (answer_is_exact p.pairs c (program_symmetric p program) h)) (few_of p.pairs))
   few_is (Err e) h = tt

@@ -13,7 +13,7 @@ use Rattle.rational.specs.Order.{rational_cmp, same_fields, same_fields_lem}
 use Rattle.rational.specs.Vectors.{add_each, scale, zeros}
 use Rattle.rational.proofs.Field.{rationals}
 use Rattle.frac_core.specs.Parts.{max_part}
-use Rattle.frac_core.specs.Calculated.{tried_in, and_then, exact_of}
+use Rattle.frac_core.specs.Calculated.{tried_in, and_then, exact_of, ◌>>=◌, answered, operated}
 use Rattle.frac_core.specs.Dot.{dot_of, dot_ops}
 use Rattle.frac_core.specs.Operations.{operation, IsWithin, IsFirstPast, Tries}
 use Rattle.frac_core.specs.Row.{Row, Entries, Refusal, entry_then, less_step, row_less}
@@ -32,7 +32,7 @@ use Rattle.exact_matrix.specs.EliminationCalculation.{divide_step, divided_in}
 use Rattle.exact_matrix.specs.EliminationOperations.{division_ops, less_ops}
 use Rattle.convexity.specs.declared.Curvature.{Curvature}
 use Rattle.convexity.specs.declared.Curvature.TheVariants.{Squares, Negative}
-use Rattle.convexity.specs.Chain.{◌>>=◌, answered, op, row_answered}
+use Rattle.convexity.specs.Chain.{row_answered}
 use Rattle.convexity.specs.Half.{upper_half, IsHalf, IsSymmetric}
 use Rattle.convexity.specs.Reduction.{first_place, tilt, tilted, less_products, after_zero, after_square, flat, by_sign, curvature_from, curvature_of}
 use Rattle.convexity.specs.ReductionCalculation.{tilt_in, less_product, less_products_in, after_square_in, flat_in, by_sign_in, squares_from, squares_of}
@@ -82,7 +82,7 @@ of_tries : (ops : List Refused) (x : ℚ) (t : Tried) → Tries max_part ops t �
 of_tries ops x (Is q) h e = (e q refl, h)
 of_tries ops x (Past r) h e = h
 
-ends_one : (o : Op) (p q : ℚ) → Ends (operation o p q ∷ []) (exact_of o p q) (op o p q)
+ends_one : (o : Op) (p q : ℚ) → Ends (operation o p q ∷ []) (exact_of o p q) (operated max_part o p q)
 ends_one o p q = of_tries (operation o p q ∷ []) (exact_of o p q) (tried_in max_part o p q) (tries_one max_part o p q) (tried-value max_part o p q)
 
 ends_dot : (v z : List ℚ) → Ends (dot_ops v z) (dot v z) (answered (dot_of max_part v z))
@@ -193,9 +193,9 @@ ends_tilt : (b c : ℚ) → Ends (tilt_ops b c) (tilt b c) (tilt_in b c)
 ends_tilt b c = by_test (is_positive c)
   where
     by_test : (t : Bool) → Ends (if t then operation Div b c ∷ [] else operation Div one_ℚ b ∷ []) (if t then neg_ℚ (b /ℚ c) else neg_ℚ (one_ℚ /ℚ b))
-        (if t then (op Div b c >>= λ q. Ok (neg_ℚ q)) else (op Div one_ℚ b >>= λ q. Ok (neg_ℚ q)))
-    by_test true = ends_with (operation Div b c ∷ []) (b /ℚ c) (op Div b c) (λ q. neg_ℚ q) (ends_one Div b c)
-    by_test false = ends_with (operation Div one_ℚ b ∷ []) (one_ℚ /ℚ b) (op Div one_ℚ b) (λ q. neg_ℚ q) (ends_one Div one_ℚ b)
+        (if t then (operated max_part Div b c >>= λ q. Ok (neg_ℚ q)) else (operated max_part Div one_ℚ b >>= λ q. Ok (neg_ℚ q)))
+    by_test true = ends_with (operation Div b c ∷ []) (b /ℚ c) (operated max_part Div b c) (λ q. neg_ℚ q) (ends_one Div b c)
+    by_test false = ends_with (operation Div one_ℚ b ∷ []) (one_ℚ /ℚ b) (operated max_part Div one_ℚ b) (λ q. neg_ℚ q) (ends_one Div one_ℚ b)
 
 module _ (n : ℕ) (d : ℚ) (r : List ℚ) (rows : List (List ℚ)) (ops : List (List ℚ) → List Refused) (exact : List (List ℚ) → Curvature)
     (calculated : List (List ℚ) → Result Curvature Refused) where

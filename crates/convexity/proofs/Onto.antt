@@ -1,23 +1,18 @@
 -- Rows written one entry after another are the rows of the calculation.
 use Rattle.std.specs.Prelude.{◌≡◌, ◌<◌, List, [], ◌∷◌, ◌++◌, take, drop, length, slice_index_or, slice_set, Result, Ok, Err}
-use Rattle.std.proofs.Common.{refl, sym, ◌∙◌, ap, arith, append_assoc, append-nil}
-use Rattle.rational.specs.Rational.{ℚ, zero_ℚ}
+use Rattle.std.proofs.Common.{refl, sym, subst, ◌∙◌, ap, arith, append_assoc, append-nil, map}
+use Rattle.std.proofs.lemmas.List.{map-id}
+use Rattle.rational.specs.Rational.{ℚ}
 use Rattle.frac_core.specs.Parts.{max_part}
-use Rattle.frac_core.specs.Calculated.{and_then}
-use Rattle.frac_core.specs.Dot.{dot_step, dot_from, dot_of}
-use Rattle.frac_core.specs.Row.{Row, Entries, Refusal, entry_then, less_step, row_less}
+use Rattle.frac_core.specs.Row.{Row, Entries, Refusal, IsRow, entry_then, row_less}
 use Rattle.frac_core.specs.declared.fractions.Refused.{Refused}
 use Rattle.frac_core.specs.declared.fractions.Tried.{Tried}
 use Rattle.frac_core.specs.declared.fractions.Tried.TheVariants.{Is, Past}
 use Rattle.program_law.specs.Vectors.{at}
 use Rattle.exact_matrix.specs.EliminationCalculation.{divide_step, divided_in}
-use Rattle.convexity.specs.Chain.{◌>>=◌, answered, row_answered}
-use Rattle.convexity.specs.Onto.{divided_onto, less_onto, dot_onto}
-
--- one operation after another
-pub answered_then : (t : Tried) (f : ℚ → Tried) → answered (and_then t f) ≡ (answered t >>= λ q. answered (f q))
-answered_then (Is q) f = refl
-answered_then (Past r) f = refl
+use Rattle.frac_core.specs.Calculated.{◌>>=◌, answered, Leaves}
+use Rattle.convexity.specs.Chain.{row_answered}
+use Rattle.convexity.specs.Onto.{divided_onto}
 
 -- what is written before, and then a row
 abbrev pub before : List ℚ → Result (List ℚ) Refused → Result (List ℚ) Refused
@@ -40,15 +35,6 @@ divided_onto_is d done (x ∷ r) =
     (λ q. divided_onto_is d (done ++ q ∷ []) r)
     ∙ one_more done (divide_step max_part d x) (divided_in max_part d r)
 
-less_onto_is : (f : ℚ) (done xs ps : List ℚ) → less_onto f done xs ps ≡ before done (row_answered (row_less max_part f xs ps))
-unfolding row_less
-less_onto_is f done [] ps = ap (λ (l : List ℚ). Ok l) (sym (append-nil done))
-less_onto_is f done (x ∷ xs) [] = refl
-less_onto_is f done (x ∷ xs) (p ∷ ps) =
-    each (less_step max_part f x p) (λ q. less_onto f (done ++ q ∷ []) xs ps) (λ q. before (done ++ q ∷ []) (row_answered (row_less max_part f xs ps)))
-    (λ q. less_onto_is f (done ++ q ∷ []) xs ps)
-    ∙ one_more done (less_step max_part f x p) (row_less max_part f xs ps)
-
 alone : (row : Result (List ℚ) Refused) → before [] row ≡ row
 alone (Ok qs) = refl
 alone (Err r) = refl
@@ -56,22 +42,15 @@ alone (Err r) = refl
 pub all_divided : (d : ℚ) (r : List ℚ) → divided_onto d [] r ≡ row_answered (divided_in max_part d r)
 all_divided d r = divided_onto_is d [] r ∙ alone (row_answered (divided_in max_part d r))
 
-pub all_less : (f : ℚ) (xs ps : List ℚ) → less_onto f [] xs ps ≡ row_answered (row_less max_part f xs ps)
-all_less f xs ps = less_onto_is f [] xs ps ∙ alone (row_answered (row_less max_part f xs ps))
-
-dot_onto_is : (total : ℚ) (xs ys : List ℚ) → dot_onto total xs ys ≡ answered (dot_from max_part total xs ys)
-unfolding dot_from
-dot_onto_is total [] ys = refl
-dot_onto_is total (x ∷ xs) [] = refl
-dot_onto_is total (x ∷ xs) (y ∷ ys) = by_step (dot_step max_part total x y) (λ s. dot_onto_is s xs ys)
+-- the row that is left of fractions, which are their own numbers
+pub row_left : (result : Result (Unit {0}) Refused) (row : List ℚ) (f : ℚ) (xs ps : List ℚ) → IsRow (λ q. q) result row (row_less max_part f (map (λ q. q) xs) (map (λ q. q) ps))
+    → Leaves row result (row_answered (row_less max_part f xs ps))
+row_left result row f xs ps h =
+    by result (subst (λ (l : List ℚ). IsRow (λ q. q) result row (row_less max_part f l ps)) (map-id xs) (subst (λ (l : List ℚ). IsRow (λ q. q) result row (row_less max_part f (map (λ q. q) xs) l)) (map-id ps) h))
   where
-    by_step : (t : Tried) → ((s : ℚ) → dot_onto s xs ys ≡ answered (dot_from max_part s xs ys))
-        → (answered t >>= λ s. dot_onto s xs ys) ≡ answered (and_then t (λ s. dot_from max_part s xs ys))
-    by_step (Is s) h = h s
-    by_step (Past r) h = refl
-
-pub all_dot : (xs ys : List ℚ) → dot_onto zero_ℚ xs ys ≡ answered (dot_of max_part xs ys)
-all_dot xs ys = dot_onto_is zero_ℚ xs ys
+    by : (result : Result (Unit {0}) Refused) → IsRow (λ q. q) result row (row_less max_part f xs ps) → Leaves row result (row_answered (row_less max_part f xs ps))
+    by (Ok u) k = ap row_answered k ∙ ap (λ (l : List ℚ). Ok l) (map-id row)
+    by (Err r) k = ap row_answered k
 
 -- the first entry written
 pub divided_start : (row v : List ℚ) (d : ℚ) → 0 < length row → length v ≡ length row → d ≡ slice_index_or row 0 d

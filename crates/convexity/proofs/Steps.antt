@@ -20,14 +20,17 @@ use Rattle.exact_matrix.specs.EliminationCalculation.{divided_in}
 use Rattle.exact_matrix.proofs.Passes.{drop_after_set}
 use Rattle.convexity.specs.declared.Curvature.{Curvature}
 use Rattle.convexity.specs.declared.Curvature.TheVariants.{Squares, Negative}
-use Rattle.convexity.specs.Chain.{◌>>=◌, row_answered}
+use Rattle.frac_core.specs.Calculated.{◌>>=◌, answered}
+use Rattle.frac_core.specs.Dot.{dot_of}
+use Rattle.frac_core.specs.declared.fractions.Tried.{Tried}
+use Rattle.convexity.specs.Chain.{row_answered}
 use Rattle.convexity.specs.Half.{IsHalf}
-use Rattle.convexity.specs.Onto.{divided_onto, less_onto, dot_onto}
+use Rattle.convexity.specs.Onto.{divided_onto}
 use Rattle.convexity.specs.Places.{after_row, after_rows, answer_at, answer_found, freed_onto, squares_of_rows}
 use Rattle.convexity.specs.Reduction.{first_place, tilted, with_zero, after_zero}
 use Rattle.convexity.specs.ReductionCalculation.{tilt_in, less_product, less_products_in, after_square_in, flat_in, by_sign_in, squares_from}
 use Rattle.convexity.proofs.Entries.{place_found}
-use Rattle.convexity.proofs.Onto.{before, divided_onto_is, all_less, all_dot}
+use Rattle.convexity.proofs.Onto.{before, divided_onto_is}
 
 -- ---- answers carried back
 
@@ -120,9 +123,19 @@ half_width (suc n) (row ∷ rows) (suc j) s h = omega (arith, half_width n rows 
 pub tail_is : (row : List ℚ) (k : ℕ) → take (length row - k) (drop k row) ≡ drop k row
 tail_is row k = take_all (length row - k) (drop k row) (let e = length-drop k row in omega (arith, e))
 
+rest_from : (row : List ℚ) (k : ℕ) → take (length row - k) (drop k row) ≡ drop k row
+rest_from row k = take_all (length row - k) (drop k row) (let e = length-drop k row in omega (arith, e))
+
 -- a row without its first entry, as it is lent
 pub rest_is : (row : List ℚ) → take (length row - 1) (drop 1 row) ≡ drop 1 row
-rest_is row = take_all (length row - 1) (drop 1 row) (let e = length-drop 1 row in omega (arith, e))
+rest_is row = rest_from row 1
+
+-- the product of what is lent of a row and of a vector
+pub dot_lent : (row lent z : List ℚ) (next : ℕ) (t : Tried) → lent ≡ z → dot_of max_part (take (length row - 1) (drop 1 row)) (take (length lent - next) (drop next lent)) ≡ t
+    → dot_of max_part (drop 1 row) (drop next z) ≡ t
+dot_lent row lent z next t e h =
+    ap (λ (u : List ℚ). dot_of max_part u (drop next z)) (sym (rest_is row))
+    ∙ ap (λ (u : List ℚ). dot_of max_part (take (length row - 1) (drop 1 row)) u) (ap (drop next) (sym e) ∙ sym (rest_from lent next)) ∙ h
 
 -- the first place with an entry, read off a row that is lent
 pub place_read : (row lent : List ℚ) (o : Option ℕ) → lent ≡ row → o ≡ first_place (take (length lent - 1) (drop 1 lent)) → first_place (drop 1 row) ≡ o
@@ -262,9 +275,9 @@ freed_is done (f ∷ r) (y ∷ v) (row ∷ rows) = by_row (row_answered (less_pr
     by_row (Err e) h = refl
 
 -- a row freed, where its factor is not 0
-pub less_is : (f : ℚ) (v row : List ℚ) → same_fields f zero_ℚ ≡ false → less_onto f [] row v ≡ row_answered (less_product f v row)
+pub less_is : (f : ℚ) (v row : List ℚ) → same_fields f zero_ℚ ≡ false → row_answered (row_less max_part f row v) ≡ row_answered (less_product f v row)
 unfolding less_product
-less_is f v row e = all_less f row v ∙ ap row_answered (pick (same_fields f zero_ℚ) e)
+less_is f v row e = ap row_answered (pick (same_fields f zero_ℚ) e)
   where
     pick : (b : Bool) → b ≡ false → row_less max_part f row v ≡ (if b then Entries row else row_less max_part f row v)
     pick true h = absurd cc
@@ -422,19 +435,10 @@ found_next j rows z h =
     ap (λ (front : List (List ℚ)). after_rows front (Ok (Negative (drop (j + 1) z)))) (next j rows h) ∙ after_last (take j rows) (row_at rows j) (Ok (Negative (drop (j + 1) z)))
 
 -- the entry at a place with a square
-pub carried_is : (row z : List ℚ) (p : Result ℚ Refused) → same_fields (at row 0) zero_ℚ ≡ false → p ≡ dot_onto zero_ℚ (drop 1 row) z
-    → after_row row (Negative z) ≡ (p >>= λ q. Ok (Negative (neg_ℚ q ∷ z)))
-carried_is [] z p t e = absurd (let bad : true ≡ false = sym (same_fields_self zero_ℚ zero_ℚ refl) ∙ t in cc)
-carried_is (d ∷ v) z p t e =
-    row_of_square d v (Negative z) t ∙ ap (λ (s : Result ℚ Refused). s >>= λ q. Ok (Negative (neg_ℚ q ∷ z))) (sym (e ∙ all_dot v z))
-
-pub carried_ok : (row z : List ℚ) (p : Result ℚ Refused) (q : ℚ) → same_fields (at row 0) zero_ℚ ≡ false → p ≡ dot_onto zero_ℚ (drop 1 row) z → p ≡ Ok q
-    → after_row row (Negative z) ≡ Ok (Negative (neg_ℚ q ∷ z))
-carried_ok row z p q t e h = carried_is row z p t e ∙ ap (λ (s : Result ℚ Refused). s >>= λ q. Ok (Negative (neg_ℚ q ∷ z))) h
-
-pub carried_err : (row z : List ℚ) (p : Result ℚ Refused) (r : Refused) → same_fields (at row 0) zero_ℚ ≡ false → p ≡ dot_onto zero_ℚ (drop 1 row) z → p ≡ Err r
-    → after_row row (Negative z) ≡ Err r
-carried_err row z p r t e h = carried_is row z p t e ∙ ap (λ (s : Result ℚ Refused). s >>= λ q. Ok (Negative (neg_ℚ q ∷ z))) h
+pub carried_is : (row z : List ℚ) (t : Tried) → same_fields (at row 0) zero_ℚ ≡ false → dot_of max_part (drop 1 row) z ≡ t
+    → after_row row (Negative z) ≡ (answered t >>= λ q. Ok (Negative (neg_ℚ q ∷ z)))
+carried_is [] z t h e = absurd (let bad : true ≡ false = sym (same_fields_self zero_ℚ zero_ℚ refl) ∙ h in cc)
+carried_is (d ∷ v) z t h e = row_of_square d v (Negative z) h ∙ ap (λ (t : Tried). answered t >>= λ q. Ok (Negative (neg_ℚ q ∷ z))) e
 
 pub carried_more : (i : ℕ) (rows : List (List ℚ)) (z : List ℚ) (x : ℚ) → 0 < i → i ≤ length rows → i ≤ length z
     → after_row (row_at rows (i - 1)) (Negative (drop i z)) ≡ Ok (Negative (x ∷ drop i z)) → answer_found (i - 1) rows (slice_set z (i - 1) x) ≡ answer_found i rows z

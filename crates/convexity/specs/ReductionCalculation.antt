@@ -15,13 +15,14 @@ use Rattle.program_law.specs.Vectors.{at, row_at}
 use Rattle.exact_matrix.specs.EliminationCalculation.{divided_in}
 use Rattle.convexity.specs.declared.Curvature.{Curvature}
 use Rattle.convexity.specs.declared.Curvature.TheVariants.{Squares, Negative}
-use Rattle.convexity.specs.Chain.{◌>>=◌, answered, op, row_answered}
+use Rattle.frac_core.specs.Calculated.{◌>>=◌, answered, operated}
+use Rattle.convexity.specs.Chain.{row_answered}
 use Rattle.convexity.specs.Half.{upper_half}
 use Rattle.convexity.specs.Reduction.{first_place, tilted, after_zero, after_square}
 
 -- the quotient, with its sign turned
 abbrev pub tilt_in : ℚ → ℚ → Result ℚ Refused
-tilt_in b c = if is_positive c then (op Div b c >>= λ q. Ok (neg_ℚ q)) else (op Div one_ℚ b >>= λ q. Ok (neg_ℚ q))
+tilt_in b c = if is_positive c then (operated max_part Div b c >>= λ q. Ok (neg_ℚ q)) else (operated max_part Div one_ℚ b >>= λ q. Ok (neg_ℚ q))
 
 -- a row less f times v; nothing where f is 0
 unfoldable pub less_product : ℚ → List ℚ → List ℚ → Row

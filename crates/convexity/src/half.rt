@@ -1,14 +1,15 @@
 // The upper half of a symmetric matrix, in one piece of memory.
 
-ghost use Rattle.convexity.specs.Chain.{Leaves};
+ghost use Rattle.convexity.specs.Chain.{row_answered};
+ghost use Rattle.frac_core.specs.Calculated.{Leaves};
+ghost use Rattle.frac_core.specs.Parts.{max_part};
+ghost use Rattle.frac_core.specs.Row.{row_less};
 ghost use Rattle.convexity.specs.Half.{upper_half, IsHalf};
-ghost use Rattle.convexity.specs.Onto.{less_onto};
 ghost use Rattle.convexity.specs.Triangle.{start_of, count_of};
 ghost use Rattle.program_law.specs.Vectors.{row_at};
 ghost use Rattle.std.specs.Prelude.{◌≡◌, ◌<◌, ◌≤◌, ◌+◌, ◌-◌, [], length, slice_set, IfOk};
 
-use crate::rows;
-use frac_core::{Frac, Memory, Refused};
+use frac_core::{Frac, Memory, Refused, take_times};
 use program_model::Program;
 use std::alloc::Global;
 use std::marker::Model;
@@ -83,11 +84,11 @@ impl Half {
     pub fn take_times(&mut self, k: usize, f: Frac, v: &[Frac]) -> Result<(), Refused>
         requires row { k < length self.old }
         requires width { k + length v.now ≡ length self.old }
-        ensures row { Leaves (row_at self.new k) result (less_onto f [] (row_at self.old k) v.now) }
+        ensures row { Leaves (row_at self.new k) result (row_answered (row_less max_part f (row_at self.old k) v.now)) }
         ensures rest { self.new ≡ slice_set self.old k (row_at self.new k) }
     {
         let (start, end) = part_of(self.size, k);
-        rows::take_times(&mut self.entries[start..end], f, v)
+        take_times(&mut self.entries[start..end], f, v)
     }
 
     // Puts a row in the place of the row at `j`.

@@ -1,7 +1,8 @@
 //! Squares that sum to the form of a program, or a vector with a negative form.
 #![tactic(auto)]
 
-ghost use Rattle.convexity.specs.Meaning.{AreFew, HasWidth, IsAnswer, IsAnswerOf, IsCurvatureOf};
+ghost use Rattle.exact_matrix.specs.Stops.{Answers, IsAnswerOf};
+ghost use Rattle.convexity.specs.Meaning.{AreFew, HasWidth, IsCurvatureOf};
 ghost use Rattle.convexity.specs.Reduction.{curvature_of};
 ghost use Rattle.convexity.specs.ReductionCalculation.{squares_of};
 ghost use Rattle.convexity.specs.ReductionOperations.{squares_ops};
@@ -15,7 +16,7 @@ mod rows;
 use crate::half::Half;
 use crate::reduction::{carry_back, reduce, squares_of};
 use exact_matrix::Stop;
-use frac_core::{Frac, Memory, Vector};
+use frac_core::{Frac, Vector};
 pub use laws::{reduction_ends_with_its_first_refusal, reduction_tells_the_curvature};
 use program_law::Squares;
 use program_model::Program;
@@ -30,23 +31,12 @@ pub enum Curvature {
     Negative(Vector<Frac>),
 }
 
-// A list of `n` zeros.
-fn zeros(alloc: Global, n: usize) -> Result<Vec<Frac>, Memory>
-    ensures { IfOk result (λ room. length room.items ≡ n) }
-{
-    let mut room = Vec::new(alloc);
-    for _ in 0..n {
-        room.push(Frac::whole(0))?;
-    }
-    Ok(room)
-}
-
 fn calculated(alloc: Global, p: &Program) -> Result<Curvature, Stop>
-    ensures { IsAnswer (squares_of p.now.pairs) result }
+    ensures { Answers (λ c. c) result (squares_of p.now.pairs) }
 {
     let mut half = Half::of(alloc, p)?;
     let mut z = Vector::filled(alloc, half.size(), Frac::whole(0))?;
-    let mut room = zeros(alloc, half.size())?;
+    let mut room = Vec::from_elem(alloc, Frac::whole(0), half.size())?;
     match reduce(&mut half, &mut z, &mut room)? {
         Some(j) => {
             carry_back(&half, j, &mut z)?;
@@ -69,7 +59,7 @@ fn calculated(alloc: Global, p: &Program) -> Result<Curvature, Stop>
 ///
 /// `Past` with the first operation of the reduction whose exact result doesn't fit, and `Memory`.
 pub fn squares(alloc: Global, p: &Program) -> Result<Curvature, Stop>
-    ensures calculation { IsAnswer (squares_of p.now.pairs) result }
+    ensures calculation { Answers (λ c. c) result (squares_of p.now.pairs) }
     ensures operations { IsAnswerOf (squares_ops p.now.pairs) result }
     ensures exact { IfOk result (λ c. c ≡ curvature_of p.now.pairs) }
     ensures right { IfOk result (λ c. IsCurvatureOf p.now.pairs c) }

@@ -1,6 +1,7 @@
 // The reduction, place by place.
 
-ghost use Rattle.convexity.specs.Chain.{row_answered, Leaves};
+ghost use Rattle.frac_core.specs.Calculated.{Leaves};
+ghost use Rattle.convexity.specs.Chain.{row_answered};
 ghost use Rattle.convexity.specs.Places.{after_row, answer_found, freed_onto, squares_of_rows, with_entry, IsReduced, IsStep, IsTaken};
 ghost use Rattle.convexity.specs.Reduction.{first_place};
 ghost use Rattle.convexity.specs.ReductionCalculation.{less_product, tilt_in};
@@ -13,8 +14,8 @@ ghost use Rattle.std.specs.Prelude.{◌≡◌, ◌≢◌, ◌<◌, ◌≤◌, �
 ghost use Rattle.std.specs.declared.cmp.Ordering.TheVariants.{Equal, Greater};
 
 use crate::half::Half;
-use crate::rows::{answered, divide_onto, dot_beyond};
-use frac_core::{Frac, Memory, Refused, Vector, is_zero};
+use crate::rows::divide_onto;
+use frac_core::{Frac, Memory, Refused, Vector, dot_fractions, is_zero};
 use program_law::{Square, Squares};
 use std::alloc::Global;
 use std::cmp::Ordering;
@@ -45,9 +46,9 @@ fn tilt(b: Frac, c: Frac) -> Result<Frac, Refused>
     ensures { result ≡ tilt_in b c }
 {
     let quotient = if is_positive(c) {
-        answered(b / c)?
+        (b / c).or_refusal()?
     } else {
-        answered(Frac::whole(1) / b)?
+        (Frac::whole(1) / b).or_refusal()?
     };
     Ok(-quotient)
 }
@@ -169,7 +170,7 @@ fn carried(row: &[Frac], z: &Vector<Frac>, next: usize) -> Result<Frac, Refused>
     if is_zero(row[0]) {
         return Ok(Frac::whole(0));
     }
-    let product = dot_beyond(&row[1..], z, next)?;
+    let product = dot_fractions(&row[1..], &z.as_slice()[next..])?;
     Ok(-product)
 }
 

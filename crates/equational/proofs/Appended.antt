@@ -11,7 +11,7 @@ use Rattle.rational.proofs.Field.{rationals}
 use Rattle.exact_matrix.specs.Grid.{rows_of}
 use Rattle.exact_matrix.specs.Systems.{joined}
 use Rattle.program_law.specs.Tests.{is_negative}
-use Rattle.form_law.specs.Equations.{Equation, matrix_row, right_of}
+use Rattle.equational_law.specs.Equations.{Equation, matrix_row, right_of}
 use Rattle.equational.specs.declared.rows.Slacks.{Slacks}
 use Rattle.equational.specs.Built.{Built, signed, signed_by, ended, with_equation, with_equations}
 

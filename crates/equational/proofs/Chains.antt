@@ -2,14 +2,11 @@
 use Rattle.std.specs.Prelude.{◌≡◌, List, [], ◌∷◌, ◌++◌, Result, Ok, Err}
 use Rattle.std.proofs.Common.{refl, sym, ap, ◌∙◌, append_assoc, append-nil}
 use Rattle.rational.specs.Rational.{ℚ}
-use Rattle.frac_core.specs.Calculated.{and_then}
 use Rattle.frac_core.specs.declared.fractions.Refused.{Refused}
-use Rattle.frac_core.specs.declared.fractions.Tried.{Tried}
-use Rattle.frac_core.specs.declared.fractions.Tried.TheVariants.{Is, Past as PastTried}
 use Rattle.exact_matrix.specs.declared.systems.Stop.{Stop}
 use Rattle.exact_matrix.specs.declared.systems.Stop.TheVariants.{Memory, Past}
-use Rattle.form_law.specs.Calculation.{◌>>=◌, number}
-use Rattle.equational.specs.Built.{Stops}
+use Rattle.frac_core.specs.Calculated.{◌>>=◌}
+use Rattle.exact_matrix.specs.Stops.{Stops}
 
 -- a stop ends all that follows
 pub stops_then : {A B : Type 0} (e : Stop) (t : Result A Refused) (f : A → Result B Refused) → Stops e t → Stops e (t >>= f)
@@ -18,11 +15,6 @@ stops_then (Past r) t f h = rw h refl
 
 pub stops_as : {A : Type 0} (e : Stop) (t u : Result A Refused) → t ≡ u → Stops e t → Stops e u
 stops_as e t u h s = rw (sym h) s
-
--- one operation after another
-pub number_then : (t : Tried) (f : ℚ → Tried) → number (and_then t f) ≡ (number t >>= λ q. number (f q))
-number_then (Is q) f = refl
-number_then (PastTried r) f = refl
 
 -- one part after another, in either order of the brackets
 pub chained : {A B C : Type 0} (t : Result A Refused) (f : A → Result B Refused) (g : B → Result C Refused) → (t >>= f >>= g) ≡ (t >>= λ x. f x >>= g)

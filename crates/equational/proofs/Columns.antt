@@ -10,10 +10,12 @@ use Rattle.frac_core.specs.declared.fractions.Refused.{Refused}
 use Rattle.exact_matrix.specs.declared.systems.Stop.{Stop}
 use Rattle.program_law.specs.declared.Row.{Row}
 use Rattle.program_law.specs.Region.{Region}
-use Rattle.form_law.specs.Standing.{Standing, Above, Below, Free, standing, parts_at, parts, spread_at, spread}
-use Rattle.form_law.specs.Equations.{Equation, bound_slacks_by}
-use Rattle.form_law.specs.Calculation.{◌>>=◌, operated, bound_equation_in, bound_equations_in}
-use Rattle.equational.specs.Built.{Built, Stops, with_equation, with_equations, appended}
+use Rattle.equational_law.specs.Standing.{Standing, Above, Below, Free, standing, parts_at, parts, spread_at, spread}
+use Rattle.equational_law.specs.Equations.{Equation, bound_slacks_by}
+use Rattle.frac_core.specs.Calculated.{◌>>=◌, operated}
+use Rattle.equational_law.specs.Calculation.{bound_equation_in, bound_equations_in}
+use Rattle.exact_matrix.specs.Stops.{Stops}
+use Rattle.equational.specs.Built.{Built, with_equation, with_equations, appended}
 use Rattle.equational.proofs.Chains.{stops_then}
 use Rattle.equational.proofs.Appended.{no_equations, one_equation, neg-zero}
 use Rattle.equational.proofs.Gathered.{equation, more_on, more_stops, all_appended}

@@ -6,7 +6,7 @@ use Rattle.rational.specs.Rational.{ℚ, one_ℚ, neg_ℚ, ◌-ℚ◌}
 use Rattle.rational.specs.Order.{same_fields}
 use Rattle.rational.specs.Vectors.{dot, zeros}
 use Rattle.frac_core.specs.Parts.{max_part}
-use Rattle.frac_core.specs.Calculated.{tried_in}
+use Rattle.frac_core.specs.Calculated.{tried_in, ◌>>=◌, answered, operated}
 use Rattle.frac_core.specs.Dot.{dot_of}
 use Rattle.frac_core.specs.declared.fractions.Op.TheVariants.{Sub}
 use Rattle.frac_core.specs.declared.fractions.Refused.{Refused}
@@ -17,13 +17,14 @@ use Rattle.exact_matrix.specs.declared.systems.Stop.{Stop}
 use Rattle.exact_matrix.specs.declared.systems.Stop.TheVariants.{Memory, Past}
 use Rattle.program_law.specs.declared.Row.{Row}
 use Rattle.program_law.specs.Region.{Region}
-use Rattle.form_law.specs.Standing.{spread}
-use Rattle.form_law.specs.Equations.{Equation, row_equations_by, slacks_at, row_equations, is_negated, right_of}
-use Rattle.form_law.specs.Calculation.{◌>>=◌, number, operated, row_equations_by_in, row_equations_in}
+use Rattle.equational_law.specs.Standing.{spread}
+use Rattle.equational_law.specs.Equations.{Equation, row_equations_by, slacks_at, row_equations, is_negated, right_of}
+use Rattle.equational_law.specs.Calculation.{row_equations_by_in, row_equations_in}
 use Rattle.equational.specs.Formed.{begins_negated, firsts_from}
 use Rattle.equational.specs.declared.kept.First.{First}
 use Rattle.equational.specs.declared.rows.Slacks.{Slacks}
-use Rattle.equational.specs.Built.{Built, Stops, Answers, with_equation, with_equations, appended, taken, side_in, two_sides_in}
+use Rattle.exact_matrix.specs.Stops.{Stops, Answers}
+use Rattle.equational.specs.Built.{Built, with_equation, with_equations, appended, taken, side_in, two_sides_in}
 use Rattle.equational.proofs.Chains.{stops_then, stops_as}
 use Rattle.equational.proofs.Appended.{no_equations, one_equation, equations_after}
 
@@ -174,42 +175,42 @@ abbrev pub rows_left : Region → List ℚ → ℕ → ℕ → List Row → List
 rows_left region h k i ss rows = row_equations_in max_part region h k (drop i ss) (drop i rows)
 
 row_equations_on : (region : Region) (h : List ℚ) (k : ℕ) (s : Row) (ss : List Row) (row : List ℚ) (rows : List (List ℚ)) → row_equations_in max_part region h k (s ∷ ss) (row ∷ rows)
-    ≡ (number (dot_of max_part row h) >>= λ a. row_equations_by_in max_part s.low s.high k (spread region row) a >>= λ es. row_equations_in max_part region h (k + slacks_at s) ss rows >>= λ others. Ok (es ++ others))
+    ≡ (answered (dot_of max_part row h) >>= λ a. row_equations_by_in max_part s.low s.high k (spread region row) a >>= λ es. row_equations_in max_part region h (k + slacks_at s) ss rows >>= λ others. Ok (es ++ others))
 unfolding row_equations_in
 row_equations_on region h k s ss row rows = refl
 
 rows_next : (region : Region) (h : List ℚ) (k i : ℕ) (ss : List Row) (rows : List (List ℚ)) (s : Row) (row : List ℚ) → drop i ss ≡ s ∷ drop (i + 1) ss → drop i rows ≡ row ∷ drop (i + 1) rows → rows_left region h k i ss rows
-    ≡ (number (dot_of max_part row h) >>= λ a. row_equations_by_in max_part s.low s.high k (spread region row) a >>= λ es. rows_left region h (k + slacks_at s) (i + 1) ss rows >>= λ others. Ok (es ++ others))
+    ≡ (answered (dot_of max_part row h) >>= λ a. row_equations_by_in max_part s.low s.high k (spread region row) a >>= λ es. rows_left region h (k + slacks_at s) (i + 1) ss rows >>= λ others. Ok (es ++ others))
 rows_next region h k i ss rows s row e f =
     ap (λ (ss : List Row). row_equations_in max_part region h k ss (drop i rows)) e
     ∙ ap (λ (m : List (List ℚ)). row_equations_in max_part region h k (s ∷ drop (i + 1) ss) m) f ∙ row_equations_on region h k s (drop (i + 1) ss) row (drop (i + 1) rows)
 
 pub row_stops : (e : Stop) (slacks : ℕ) (b : Built) (region : Region) (h : List ℚ) (k i : ℕ) (ss : List Row) (rows : List (List ℚ)) (s : Row) (row : List ℚ) (whole : Result Built Refused)
     → drop i ss ≡ s ∷ drop (i + 1) ss → drop i rows ≡ row ∷ drop (i + 1) rows
-    → Stops e (number (dot_of max_part row h)) → appended slacks b (rows_left region h k i ss rows) ≡ whole → Stops e whole
+    → Stops e (answered (dot_of max_part row h)) → appended slacks b (rows_left region h k i ss rows) ≡ whole → Stops e whole
 row_stops e slacks b region h k i ss rows s row whole f g d w =
     stops_as e (appended slacks b (rows_left region h k i ss rows)) whole w
     (stops_then e (rows_left region h k i ss rows) (λ es. Ok (with_equations slacks b es))
     (stops_as e _ (rows_left region h k i ss rows) (sym (rows_next region h k i ss rows s row f g))
-    (stops_then e (number (dot_of max_part row h)) (λ a. row_equations_by_in max_part s.low s.high k (spread region row) a >>= λ es. rows_left region h (k + slacks_at s) (i + 1) ss rows >>= λ others. Ok (es ++ others)) d)))
+    (stops_then e (answered (dot_of max_part row h)) (λ a. row_equations_by_in max_part s.low s.high k (spread region row) a >>= λ es. rows_left region h (k + slacks_at s) (i + 1) ss rows >>= λ others. Ok (es ++ others)) d)))
 
 -- with the row's product known
 known_next : (region : Region) (h : List ℚ) (k i : ℕ) (ss : List Row) (rows : List (List ℚ)) (s : Row) (row : List ℚ) (a : ℚ) → drop i ss ≡ s ∷ drop (i + 1) ss → drop i rows ≡ row ∷ drop (i + 1) rows
-    → number (dot_of max_part row h) ≡ Ok a
+    → answered (dot_of max_part row h) ≡ Ok a
     → rows_left region h k i ss rows ≡ (row_equations_by_in max_part s.low s.high k (spread region row) a >>= λ es. rows_left region h (k + slacks_at s) (i + 1) ss rows >>= λ others. Ok (es ++ others))
 known_next region h k i ss rows s row a e f d =
     rows_next region h k i ss rows s row e f
     ∙ ap (λ (t : Result ℚ Refused). t >>= λ a. row_equations_by_in max_part s.low s.high k (spread region row) a >>= λ es. rows_left region h (k + slacks_at s) (i + 1) ss rows >>= λ others. Ok (es ++ others)) d
 
 pub sides_stop : (e : Stop) (slacks : ℕ) (b : Built) (region : Region) (h : List ℚ) (k i : ℕ) (ss : List Row) (rows : List (List ℚ)) (s : Row) (row : List ℚ) (a : ℚ) (whole : Result Built Refused)
-    → drop i ss ≡ s ∷ drop (i + 1) ss → drop i rows ≡ row ∷ drop (i + 1) rows → number (dot_of max_part row h) ≡ Ok a
+    → drop i ss ≡ s ∷ drop (i + 1) ss → drop i rows ≡ row ∷ drop (i + 1) rows → answered (dot_of max_part row h) ≡ Ok a
     → Stops e (taken slacks b (row_equations_by_in max_part s.low s.high k (spread region row) a)) → appended slacks b (rows_left region h k i ss rows) ≡ whole → Stops e whole
 sides_stop e slacks b region h k i ss rows s row a whole f g d t w =
     more_stops e slacks b (rows_left region h k i ss rows) (row_equations_by_in max_part s.low s.high k (spread region row) a) (rows_left region h (k + slacks_at s) (i + 1) ss rows) whole
     (known_next region h k i ss rows s row a f g d) (taken_stops e slacks b _ t) w
 
 pub row_on : (slacks : ℕ) (b new : Built) (region : Region) (h : List ℚ) (k i m : ℕ) (ss : List Row) (rows : List (List ℚ)) (s : Row) (row : List ℚ) (a : ℚ) (n : Bool) (whole : Result Built Refused)
-    → drop i ss ≡ s ∷ drop (i + 1) ss → drop i rows ≡ row ∷ drop (i + 1) rows → m ≡ slacks_at s → number (dot_of max_part row h) ≡ Ok a
+    → drop i ss ≡ s ∷ drop (i + 1) ss → drop i rows ≡ row ∷ drop (i + 1) rows → m ≡ slacks_at s → answered (dot_of max_part row h) ≡ Ok a
     → taken slacks b (row_equations_by_in max_part s.low s.high k (spread region row) a) ≡ Ok (new, n) → appended slacks b (rows_left region h k i ss rows) ≡ whole
     → appended slacks new (rows_left region h (k + m) (i + 1) ss rows) ≡ whole
 row_on slacks b new region h k i m ss rows s row a n whole f g l d t w =
@@ -228,14 +229,14 @@ rows_end slacks b region h k i ss rows whole l w =
 
 -- ---- the first equation of each row
 
-number_is : (t : Tried) (v : ℚ) → number t ≡ Ok v → t ≡ Is v
+number_is : (t : Tried) (v : ℚ) → answered t ≡ Ok v → t ≡ Is v
 number_is (Is q) v h = let e : q ≡ v = cc in ap (λ (q : ℚ). Is q) e
 number_is (PastTried r) v h = absurd cc
 
 difference_is : (p q v : ℚ) → operated max_part Sub p q ≡ Ok v → v ≡ p -ℚ q
 difference_is p q v h = tried-value max_part Sub p q v (number_is (tried_in max_part Sub p q) v h)
 
-dot_is : (row h : List ℚ) (a : ℚ) → number (dot_of max_part row h) ≡ Ok a → a ≡ dot row h
+dot_is : (row h : List ℚ) (a : ℚ) → answered (dot_of max_part row h) ≡ Ok a → a ≡ dot row h
 dot_is row h a e = dot_of-value max_part row h a (number_is (dot_of max_part row h) a e)
 
 one_exact : (t : Result ℚ Refused) (f : ℚ → List Equation) (v : ℚ) (es : List Equation) → ((q : ℚ) → t ≡ Ok q → q ≡ v) → (t >>= λ r. Ok (f r)) ≡ Ok es → es ≡ f v
@@ -286,7 +287,7 @@ first_of (Some l) (Some u) n ss k row a others h = by (same_fields l u)
     by false = refl
 
 pub first_on : (slacks : ℕ) (old new : Built) (region : Region) (h : List ℚ) (k i m count : ℕ) (ss : List Row) (rows : List (List ℚ)) (s : Row) (row : List ℚ) (a : ℚ) (n : Bool) (was now : List First) (more : List Equation) (whole : List First)
-    → drop i ss ≡ s ∷ drop (i + 1) ss → drop i rows ≡ row ∷ drop (i + 1) rows → IsSome s.low ⊎ IsSome s.high → m ≡ slacks_at s → number (dot_of max_part row h) ≡ Ok a
+    → drop i ss ≡ s ∷ drop (i + 1) ss → drop i rows ≡ row ∷ drop (i + 1) rows → IsSome s.low ⊎ IsSome s.high → m ≡ slacks_at s → answered (dot_of max_part row h) ≡ Ok a
     → taken slacks old (row_equations_by_in max_part s.low s.high k (spread region row) a) ≡ Ok (new, n) → count ≡ length old.right → now ≡ was ++ record { equation = count; negated = n } ∷ []
     → was ++ firsts_from (length old.right) (drop i ss) (row_equations region h k (drop i ss) (drop i rows) ++ more) ≡ whole
     → now ++ firsts_from (length new.right) (drop (i + 1) ss) (row_equations region h (k + m) (drop (i + 1) ss) (drop (i + 1) rows) ++ more) ≡ whole

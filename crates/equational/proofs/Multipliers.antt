@@ -12,9 +12,9 @@ use Rattle.frac_core.specs.declared.vectors.Memory.{Memory}
 use Rattle.program_law.specs.declared.Row.{Row}
 use Rattle.program_law.specs.Region.{Region}
 use Rattle.program_law.specs.Program.{Program, IsProgram, IsRow, sides}
-use Rattle.form_law.specs.Standing.{shift, spread}
-use Rattle.form_law.specs.Equations.{Equation, count_by, is_negated, row_equations, row_equations_by, row_slacks, bound_equations, slacks_at}
-use Rattle.form_law.specs.Form.{equations, firsts, multipliers_of, unsigned}
+use Rattle.equational_law.specs.Standing.{shift, spread}
+use Rattle.equational_law.specs.Equations.{Equation, count_by, is_negated, row_equations, row_equations_by, row_slacks, bound_equations, slacks_at}
+use Rattle.equational_law.specs.Form.{equations, firsts, multipliers_of, unsigned}
 use Rattle.equational.specs.Back.{multiplier_at}
 use Rattle.equational.specs.Formed.{begins_negated, firsts_from, formed, Formed}
 use Rattle.equational.specs.declared.kept.First.{First}

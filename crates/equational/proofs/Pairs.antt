@@ -7,8 +7,8 @@ use Rattle.rational.specs.Vectors.{zeros}
 use Rattle.exact_matrix.specs.Systems.{joined}
 use Rattle.program_law.specs.declared.Row.{Row}
 use Rattle.program_law.specs.Region.{Region}
-use Rattle.form_law.specs.Standing.{Standing, Below, Free, standing, parts, spread, spread_rows_at, spread_rows}
-use Rattle.form_law.specs.Form.{padded}
+use Rattle.equational_law.specs.Standing.{Standing, Below, Free, standing, parts, spread, spread_rows_at, spread_rows}
+use Rattle.equational_law.specs.Form.{padded}
 use Rattle.equational.specs.Built.{Laid, all_slacks, signed, quadratic_rows}
 use Rattle.equational.proofs.Appended.{signed-append, signed-zeros, joined-append}
 use Rattle.equational.proofs.Columns.{zeros-add}

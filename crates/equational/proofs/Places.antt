@@ -8,8 +8,8 @@ use Rattle.program_law.specs.declared.Row.{Row}
 use Rattle.program_law.specs.Program.{Program, IsProgram, sides}
 use Rattle.program_law.specs.Vectors.{row_at}
 use Rattle.program_law.specs.Region.{Region}
-use Rattle.form_law.specs.Standing.{standing, parts_at, parts}
-use Rattle.form_law.specs.Equations.{slacks_at, row_slacks, bound_slacks_by, bound_slacks}
+use Rattle.equational_law.specs.Standing.{standing, parts_at, parts}
+use Rattle.equational_law.specs.Equations.{slacks_at, row_slacks, bound_slacks_by, bound_slacks}
 
 pub at_place : {A : Type 0} (xs : List A) (i : ℕ) (x : A) → i < length xs → x ≡ get_or xs i x → drop i xs ≡ x ∷ drop (i + 1) xs
 at_place {A = A} xs i x h e = drop_more xs i x h ∙ ap (λ (y : A). y ∷ drop (i + 1) xs) (sym e)

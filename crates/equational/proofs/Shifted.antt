@@ -1,39 +1,20 @@
 -- The objective's calculation, place by place.
-use Rattle.std.specs.Prelude.{◌≡◌, ◌<◌, ◌≤◌, ℕ, ◌+◌, List, [], ◌∷◌, drop, get_or, length, Result, Ok}
+use Rattle.std.specs.Prelude.{◌≡◌, ◌<◌, ◌≤◌, ℕ, ◌+◌, List, [], ◌∷◌, drop, get_or, length, Ok}
 use Rattle.std.proofs.Common.{refl, sym, ap, ◌∙◌, arith}
 use Rattle.std.proofs.lemmas.List.{drop_more, drop_all}
 use Rattle.rational.specs.Rational.{ℚ}
 use Rattle.frac_core.specs.declared.fractions.Op.TheVariants.{Add}
-use Rattle.frac_core.specs.declared.fractions.Refused.{Refused}
-use Rattle.frac_core.specs.Dot.{dot_step, dot_from, dot_of}
-use Rattle.form_law.specs.Calculation.{◌>>=◌, number, operated, products_in, sums_in}
-use Rattle.equational.proofs.Chains.{number_then}
+use Rattle.frac_core.specs.Dot.{dot_of}
+use Rattle.frac_core.specs.Calculated.{◌>>=◌, answered, operated}
+use Rattle.equational_law.specs.Calculation.{products_in, sums_in}
 use Rattle.equational.proofs.Places.{at_place}
 
-dot_step_on : (top : ℕ) (total x y : ℚ) (xs ys : List ℚ) → number (dot_from top total (x ∷ xs) (y ∷ ys)) ≡ (number (dot_step top total x y) >>= λ s. number (dot_from top s xs ys))
-unfolding dot_from
-dot_step_on top total x y xs ys = number_then (dot_step top total x y) (λ s. dot_from top s xs ys)
-
-pub dot_next : (top : ℕ) (total : ℚ) (xs ys : List ℚ) (i : ℕ) (x y : ℚ) → length xs ≡ length ys → i < length xs → x ≡ get_or xs i x → y ≡ get_or ys i y
-    → number (dot_from top total (drop i xs) (drop i ys)) ≡ (number (dot_step top total x y) >>= λ s. number (dot_from top s (drop (i + 1) xs) (drop (i + 1) ys)))
-dot_next top total xs ys i x y l h e f =
-    ap (λ (us : List ℚ). number (dot_from top total us (drop i ys))) (at_place xs i x h e)
-    ∙ ap (λ (vs : List ℚ). number (dot_from top total (x ∷ drop (i + 1) xs) vs)) (at_place ys i y (omega arith) f)
-    ∙ dot_step_on top total x y (drop (i + 1) xs) (drop (i + 1) ys)
-
-no_dot : (top : ℕ) (total : ℚ) (ys : List ℚ) → number (dot_from top total [] ys) ≡ Ok total
-unfolding dot_from
-no_dot top total ys = refl
-
-pub dot_ends : (top : ℕ) (total : ℚ) (xs ys : List ℚ) (i : ℕ) (whole : Result ℚ Refused) → length xs ≤ i → number (dot_from top total (drop i xs) (drop i ys)) ≡ whole → whole ≡ Ok total
-dot_ends top total xs ys i whole h k = sym k ∙ ap (λ (us : List ℚ). number (dot_from top total us (drop i ys))) (drop_all i xs h) ∙ no_dot top total (drop i ys)
-
-products_by : (top : ℕ) (row : List ℚ) (rows : List (List ℚ)) (h : List ℚ) → products_in top (row ∷ rows) h ≡ (number (dot_of top row h) >>= λ q. products_in top rows h >>= λ qs. Ok (q ∷ qs))
+products_by : (top : ℕ) (row : List ℚ) (rows : List (List ℚ)) (h : List ℚ) → products_in top (row ∷ rows) h ≡ (answered (dot_of top row h) >>= λ q. products_in top rows h >>= λ qs. Ok (q ∷ qs))
 unfolding products_in
 products_by top row rows h = refl
 
 pub products_next : (top : ℕ) (rows : List (List ℚ)) (h : List ℚ) (i : ℕ) (row : List ℚ) → i < length rows → row ≡ get_or rows i []
-    → products_in top (drop i rows) h ≡ (number (dot_of top row h) >>= λ q. products_in top (drop (i + 1) rows) h >>= λ qs. Ok (q ∷ qs))
+    → products_in top (drop i rows) h ≡ (answered (dot_of top row h) >>= λ q. products_in top (drop (i + 1) rows) h >>= λ qs. Ok (q ∷ qs))
 products_next top rows h i row l e =
     ap (λ (m : List (List ℚ)). products_in top m h) (drop_more rows i [] l ∙ ap (λ (r : List ℚ). r ∷ drop (i + 1) rows) (sym e)) ∙ products_by top row (drop (i + 1) rows) h
 

@@ -8,13 +8,13 @@ use Rattle.rational.specs.Sums.{entry}
 use Rattle.frac_core.specs.declared.fractions.Op.TheVariants.{Add, Sub}
 use Rattle.frac_core.specs.declared.fractions.Refused.{Refused}
 use Rattle.frac_core.specs.declared.fractions.Tried.{Tried}
-use Rattle.frac_core.specs.Calculated.{tried_in}
+use Rattle.frac_core.specs.Calculated.{tried_in, ◌>>=◌, answered, operated}
 use Rattle.frac_core.specs.Dot.{IsAnswer}
 use Rattle.frac_core.specs.Parts.{max_part}
 use Rattle.program_law.specs.declared.Row.{Row}
 use Rattle.program_law.specs.Region.{Region}
-use Rattle.form_law.specs.Standing.{Above, Below, Free, standing, parts_at, parts}
-use Rattle.form_law.specs.Calculation.{◌>>=◌, number, operated, point_entry_in, ray_entry_in, point_in, ray_in}
+use Rattle.equational_law.specs.Standing.{Above, Below, Free, standing, parts_at, parts}
+use Rattle.equational_law.specs.Calculation.{point_entry_in, ray_entry_in, point_in, ray_in}
 use Rattle.equational.specs.declared.back.Carried.{Carried}
 use Rattle.equational.specs.declared.back.Carried.TheVariants.{Point, Direction}
 use Rattle.equational.specs.Back.{column_in, columns_in, with_rest}
@@ -26,7 +26,7 @@ next_there bs j b within is = drop_more bs j b within ∙ ap (λ (x : Row). x �
 
 -- ---- a column
 
-number_is : (r : Result ℚ Refused) (t : Tried) → IsAnswer (λ q. q) r t → r ≡ number t
+number_is : (r : Result ℚ Refused) (t : Tried) → IsAnswer (λ q. q) r t → r ≡ answered t
 number_is (Ok q) t h = rw h refl
 number_is (Err e) t h = rw h refl
 

@@ -17,17 +17,19 @@ use Rattle.exact_matrix.specs.Systems.{joined}
 use Rattle.program_law.specs.declared.Row.{Row}
 use Rattle.program_law.specs.Region.{Region}
 use Rattle.program_law.specs.Program.{Program, IsProgram, IsRow, sides}
-use Rattle.form_law.specs.Standing.{parts, shift, spread}
-use Rattle.form_law.specs.Equations.{Equation, row_equations_by, row_equations, slacks_at, row_slacks, bound_equations, matrix_row, right_of}
-use Rattle.form_law.specs.Form.{Form, equations, slacks, width, padded, form_by, form_of}
-use Rattle.form_law.specs.Solutions.{IsForm}
-use Rattle.form_law.specs.Calculation.{Gives, ◌>>=◌, products_in, sums_in, constant_in, row_equations_in, bound_equations_in, equations_in, form_in, form_ops}
-use Rattle.form_law.proofs.Calculated.{form_gives}
-use Rattle.form_law.proofs.Shapes.{shape, symmetric}
-use Rattle.form_law.proofs.Solving.{length-cost}
+use Rattle.equational_law.specs.Standing.{parts, shift, spread}
+use Rattle.equational_law.specs.Equations.{Equation, row_equations_by, row_equations, slacks_at, row_slacks, bound_equations, matrix_row, right_of}
+use Rattle.equational_law.specs.Form.{Form, equations, slacks, width, padded, form_by, form_of}
+use Rattle.equational_law.specs.Solutions.{IsForm}
+use Rattle.frac_core.specs.Calculated.{◌>>=◌}
+use Rattle.equational_law.specs.Calculation.{Gives, products_in, sums_in, constant_in, row_equations_in, bound_equations_in, equations_in, form_in, form_ops}
+use Rattle.equational_law.proofs.Calculated.{form_gives}
+use Rattle.equational_law.proofs.Shapes.{shape, symmetric}
+use Rattle.equational_law.proofs.Solving.{length-cost}
 use Rattle.equational.specs.declared.kept.First.{First}
-use Rattle.equational.specs.Formed.{Formed, formed, firsts_from, begins_negated, IsKept, IsFormAnswer, IsAnswerOf}
-use Rattle.equational.specs.Built.{Stops, Laid, laid, all_slacks, Built, with_equations, appended, objective_in, quadratic_rows, IsMade}
+use Rattle.exact_matrix.specs.Stops.{Answers, IsAnswerOf, Stops}
+use Rattle.equational.specs.Formed.{Formed, formed, firsts_from, begins_negated, IsKept}
+use Rattle.equational.specs.Built.{Laid, laid, all_slacks, Built, with_equations, appended, objective_in, quadratic_rows, IsMade}
 use Rattle.equational.proofs.Chains.{stops_then, stops_as}
 use Rattle.equational.proofs.Appended.{equations_after, length-joined, rows_of-joined}
 use Rattle.equational.proofs.Gathered.{equation, first, first_of}
@@ -267,11 +269,11 @@ gives_refusal : {A : Type 0} (ops : List Refused) (v : A) (r : Refused) (t : Res
 gives_refusal ops v r (Ok x) g e = absurd cc
 gives_refusal ops v r (Err q) g e = let h : q ≡ r = cc in rw (sym h) g
 
-pub operations_are : (p : Program) (region : Region) (answer : Result Formed Stop) → IsFormAnswer (form_in max_part p region) answer → IsAnswerOf (form_ops p region) answer
+pub operations_are : (p : Program) (region : Region) (answer : Result Formed Stop) → Answers (λ (f : Formed). f.form) answer (form_in max_part p region) → IsAnswerOf (form_ops p region) answer
 operations_are p region (Ok f) h = gives_operations (form_ops p region) (form_of p region) f.form (form_in max_part p region) (form_gives max_part p region) h
 operations_are p region (Err (Past r)) h = gives_refusal (form_ops p region) (form_of p region) r (form_in max_part p region) (form_gives max_part p region) h
 operations_are p region (Err Memory) h = tt
 
-pub is_stopped : (e : Stop) (t : Result Form Refused) → Stops e t → IsFormAnswer t (Err e)
+pub is_stopped : (e : Stop) (t : Result Form Refused) → Stops e t → Answers (λ (f : Formed). f.form) (Err e) t
 is_stopped Memory t h = tt
 is_stopped (Past r) t h = h

@@ -5,8 +5,9 @@ use Rattle.rational.specs.Sums.{entry}
 use Rattle.frac_core.specs.Parts.{max_part}
 use Rattle.frac_core.specs.declared.fractions.Refused.{Refused}
 use Rattle.program_law.specs.Region.{Region}
-use Rattle.form_law.specs.Standing.{Standing}
-use Rattle.form_law.specs.Calculation.{◌>>=◌, point_entry_in, ray_entry_in, point_in, ray_in}
+use Rattle.equational_law.specs.Standing.{Standing}
+use Rattle.frac_core.specs.Calculated.{◌>>=◌}
+use Rattle.equational_law.specs.Calculation.{point_entry_in, ray_entry_in, point_in, ray_in}
 use Rattle.equational.specs.declared.back.Carried.{Carried}
 use Rattle.equational.specs.declared.back.Carried.TheVariants.{Point, Direction}
 use Rattle.equational.specs.declared.kept.First.{First}

@@ -1,33 +1,22 @@
 -- Equations as they are appended, row after row, and what a call leaves of a calculation.
-use Rattle.std.specs.Prelude.{◌≡◌, ℕ, ◌+◌, ◌-◌, ◌++◌, ◌∷◌, [], List, length, map, replicate, Bool, Result, Ok, Err, if◌then◌else◌}
+use Rattle.std.specs.Prelude.{◌≡◌, ℕ, ◌+◌, ◌-◌, ◌++◌, ◌∷◌, [], List, length, map, replicate, Bool, Result, Ok, if◌then◌else◌}
 use Rattle.rational.specs.Rational.{ℚ, neg_ℚ, one_ℚ}
 use Rattle.frac_core.specs.declared.fractions.Refused.{Refused}
 use Rattle.frac_core.specs.declared.fractions.Op.TheVariants.{Sub}
 use Rattle.frac_core.specs.Parts.{max_part}
-use Rattle.exact_matrix.specs.declared.systems.Stop.{Stop}
-use Rattle.exact_matrix.specs.declared.systems.Stop.TheVariants.{Memory, Past}
 use Rattle.exact_matrix.specs.Systems.{joined}
 use Rattle.rational.specs.Vectors.{zeros}
 use Rattle.program_law.specs.Region.{Region}
 use Rattle.program_law.specs.Tests.{is_negative}
 use Rattle.program_law.specs.Program.{Program, IsProgram, sides}
-use Rattle.form_law.specs.Standing.{parts, spread, spread_rows}
-use Rattle.form_law.specs.Form.{padded, equations, form_of}
-use Rattle.form_law.specs.Equations.{Equation, matrix_row, right_of, row_slacks, bound_slacks}
+use Rattle.equational_law.specs.Standing.{parts, spread, spread_rows}
+use Rattle.equational_law.specs.Form.{padded, equations, form_of}
+use Rattle.equational_law.specs.Equations.{Equation, matrix_row, right_of, row_slacks, bound_slacks}
 use Rattle.equational.specs.declared.rows.Slacks.{Slacks}
 use Rattle.equational.specs.Formed.{begins_negated, firsts_from}
 use Rattle.equational.specs.declared.kept.First.{First}
-use Rattle.form_law.specs.Calculation.{◌>>=◌, operated, products_in, sums_in, constant_in}
-
--- a calculation that a stop ends ends with its refusal
-abbrev pub Stops : {A : Type 0} → Stop → Result A Refused → Type 0
-Stops Memory t = Unit {0}
-Stops (Past r) t = t ≡ Err r
-
--- a call ends with what the calculation does, as `view` sees it, unless memory runs out
-abbrev pub Answers : {T A : Type 0} → (T → A) → Result T Stop → Result A Refused → Type 0
-Answers view (Ok x) t = t ≡ Ok (view x)
-Answers view (Err e) t = Stops e t
+use Rattle.frac_core.specs.Calculated.{◌>>=◌, operated}
+use Rattle.equational_law.specs.Calculation.{products_in, sums_in, constant_in}
 
 -- the costs and the constant, given the shift
 unfoldable pub objective_in : ℕ → Program → List ℚ → Result (List ℚ × ℚ) Refused

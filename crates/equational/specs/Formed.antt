@@ -1,19 +1,14 @@
 -- A form as it is kept: its parts, and how its columns and equations came from a program and a region.
-use Rattle.std.specs.Prelude.{◌≡◌, ℕ, ◌+◌, ◌<◌, ◌≤◌, List, [], ◌∷◌, length, drop, Bool, false, Result, Ok, Err}
+use Rattle.std.specs.Prelude.{◌≡◌, ℕ, ◌+◌, ◌<◌, ◌≤◌, List, [], ◌∷◌, length, drop, Bool, false}
 use Rattle.std.specs.List.{All}
-use Rattle.frac_core.specs.Parts.{max_part}
-use Rattle.frac_core.specs.Operations.{IsWithin, IsFirstPast}
-use Rattle.frac_core.specs.declared.fractions.Refused.{Refused}
 use Rattle.program_law.specs.declared.Row.{Row}
 use Rattle.program_law.specs.Region.{Region}
 use Rattle.program_law.specs.Program.{Program, sides}
-use Rattle.exact_matrix.specs.declared.systems.Stop.{Stop}
-use Rattle.exact_matrix.specs.declared.systems.Stop.TheVariants.{Memory, Past}
 use Rattle.rational.specs.Vectors.{IsSymmetric}
-use Rattle.form_law.specs.Standing.{parts}
-use Rattle.form_law.specs.Solutions.{IsForm}
-use Rattle.form_law.specs.Equations.{Equation, count_by, is_negated}
-use Rattle.form_law.specs.Form.{Form, equations, form_of}
+use Rattle.equational_law.specs.Standing.{parts}
+use Rattle.equational_law.specs.Solutions.{IsForm}
+use Rattle.equational_law.specs.Equations.{Equation, count_by, is_negated}
+use Rattle.equational_law.specs.Form.{Form, equations, form_of}
 use Rattle.equational.specs.declared.kept.First.{First}
 
 -- whether the first of these equations is negated
@@ -47,23 +42,3 @@ pub record IsKept (m n : ℕ) (region : Region) (kept : List First) (f : Form) :
   pub symmetric : IsSymmetric (length f.cost) f.quadratic
   pub parts : parts region ≤ length f.cost
   pub firsts : All (λ s. s.equation < length f.right) kept
-
--- ---- what a call answers
-
--- what the calculation does, unless memory runs out
-abbrev pub IsAnswer : {A : Type 0} → Result A Refused → Result A Stop → Type 0
-IsAnswer answer (Ok x) = answer ≡ Ok x
-IsAnswer answer (Err (Past r)) = answer ≡ Err r
-IsAnswer answer (Err Memory) = Unit {0}
-
--- the same of the form, which is kept with where it came from
-abbrev pub IsFormAnswer : Result Form Refused → Result Formed Stop → Type 0
-IsFormAnswer answer (Ok f) = answer ≡ Ok f.form
-IsFormAnswer answer (Err (Past r)) = answer ≡ Err r
-IsFormAnswer answer (Err Memory) = Unit {0}
-
--- no operation of the list is past where there is an answer; a refusal is the first that is
-abbrev pub IsAnswerOf : {A : Type 0} → List Refused → Result A Stop → Type 0
-IsAnswerOf ops (Ok x) = All (IsWithin max_part) ops
-IsAnswerOf ops (Err (Past r)) = IsFirstPast max_part ops r
-IsAnswerOf ops (Err Memory) = Unit {0}

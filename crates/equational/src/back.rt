@@ -1,9 +1,10 @@
 // The ways back from a form's columns and equations to the file's columns and rows.
 
 ghost use Rattle.equational.specs.Back.{column_in, columns_in, multiplier_at};
-ghost use Rattle.equational.specs.Formed.{IsAnswer};
-ghost use Rattle.form_law.specs.Calculation.{operated, point_entry_in, ray_entry_in};
-ghost use Rattle.form_law.specs.Standing.{parts, parts_at, standing};
+ghost use Rattle.exact_matrix.specs.Stops.{Answers};
+ghost use Rattle.frac_core.specs.Calculated.{operated};
+ghost use Rattle.equational_law.specs.Calculation.{point_entry_in, ray_entry_in};
+ghost use Rattle.equational_law.specs.Standing.{parts, parts_at, standing};
 ghost use Rattle.frac_core.specs.Parts.{max_part};
 ghost use Rattle.frac_core.specs.declared.fractions.Op.TheVariants.{Sub};
 ghost use Rattle.rational.specs.Sums.{entry};
@@ -76,7 +77,7 @@ pub(crate) fn columns_back(
     z: &Vector<Frac>,
 ) -> Result<Vector<Frac>, Stop>
     requires { parts region.now ≤ length z.now }
-    ensures { IsAnswer (columns_in carried region.now z.now) result }
+    ensures { Answers (λ x. x) result (columns_in carried region.now z.now) }
 {
     let _length = z.len();
     let mut columns = Vector::filled(alloc, region.len(), Frac::whole(0))?;

@@ -3,8 +3,9 @@
 ghost use Rattle.std.specs.Prelude.{◌≡◌, length, IfOk};
 ghost use Rattle.program_law.specs.Region.{IsCrossedRegion};
 ghost use Rattle.frac_core.specs.Parts.{max_part};
-ghost use Rattle.form_law.specs.Calculation.{form_in, form_ops};
-ghost use Rattle.equational.specs.Formed.{formed, IsAnswerOf, IsFormAnswer};
+ghost use Rattle.equational_law.specs.Calculation.{form_in, form_ops};
+ghost use Rattle.exact_matrix.specs.Stops.{IsAnswerOf, Answers};
+ghost use Rattle.equational.specs.Formed.{formed};
 
 use crate::assembly::assembled;
 use crate::equations::{columns_taken, rows_taken};
@@ -19,14 +20,14 @@ use std::alloc::Global;
 
 fn calculated(alloc: Global, p: &Program, region: &Region) -> Result<Form, Stop>
     requires { length region.now ≡ length p.now.columns }
-    ensures calculation { IsFormAnswer (form_in max_part p.now region.now) result }
+    ensures calculation { Answers (λ f. f.form) result (form_in max_part p.now region.now) }
     ensures exact { IfOk result (λ f. f ≡ formed p.now region.now) }
 {
     let _columns = p.columns();
     let layout = Layout::of(alloc, p, region)?;
     let h = shift(alloc, layout.bounds())?;
     let (costs, constant) = objective(alloc, p, &h)?;
-    let mut rows = Rows::new(alloc)?;
+    let mut rows = Rows::new(alloc);
     let firsts = rows_taken(alloc, &mut rows, &layout, p, &h)?;
     columns_taken(&mut rows, &layout)?;
     let quadratic = quadratic(alloc, &layout, p)?;
@@ -45,7 +46,7 @@ fn calculated(alloc: Global, p: &Program, region: &Region) -> Result<Form, Stop>
 pub fn form(alloc: Global, p: &Program, region: &Region) -> Result<Form, Stop>
     requires region { length region.now ≡ length p.now.columns }
     requires not_crossed { IsCrossedRegion region.now → ⊥ }
-    ensures calculation { IsFormAnswer (form_in max_part p.now region.now) result }
+    ensures calculation { Answers (λ f. f.form) result (form_in max_part p.now region.now) }
     ensures operations { IsAnswerOf (form_ops p.now region.now) result }
     ensures exact { IfOk result (λ f. f ≡ formed p.now region.now) }
 {

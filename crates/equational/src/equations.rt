@@ -5,20 +5,20 @@ ghost use Rattle.rational.specs.Rational.{one_ℚ};
 ghost use Rattle.rational.specs.Vectors.{zeros};
 ghost use Rattle.frac_core.specs.Parts.{max_part};
 ghost use Rattle.program_law.specs.Program.{sides};
-ghost use Rattle.form_law.specs.Standing.{parts, parts_at, spread, standing};
-ghost use Rattle.form_law.specs.Equations.{Equation, slacks_at, row_slacks, row_equations, bound_slacks_by};
-ghost use Rattle.form_law.specs.Calculation.{row_equations_by_in, row_equations_in, bound_equation_in, bound_equations_in};
+ghost use Rattle.equational_law.specs.Standing.{parts, parts_at, spread, standing};
+ghost use Rattle.equational_law.specs.Equations.{Equation, slacks_at, row_slacks, row_equations, bound_slacks_by};
+ghost use Rattle.equational_law.specs.Calculation.{row_equations_by_in, row_equations_in, bound_equation_in, bound_equations_in};
 ghost use Rattle.equational.specs.Formed.{firsts_from};
-ghost use Rattle.equational.specs.Built.{all_slacks, appended, side_in, taken, two_sides_in, Answers};
+ghost use Rattle.exact_matrix.specs.Stops.{Answers};
+ghost use Rattle.equational.specs.Built.{all_slacks, appended, side_in, taken, two_sides_in};
 
 use crate::kept::First;
 use crate::layout::{Layout, bound_slacks_of, parts_of, slacks_of};
 use crate::lists::push;
-use crate::objective::{dot, number};
 use crate::rows::{Rows, Slacks};
 use check_steps::{is_negative, same};
 use exact_matrix::Stop;
-use frac_core::Frac;
+use frac_core::{Frac, dot_fractions, subtracted};
 use program_law::Row;
 use program_model::Program;
 use std::alloc::Global;
@@ -36,7 +36,7 @@ fn push_side(
     requires within { slacks.before + slacks.own ≤ all_slacks layout.now }
     ensures { Answers (λ negated. (rows.new, negated)) result (taken (all_slacks layout.now) rows.old (side_in (spread layout.now.region row.now) slacks side product)) }
 {
-    let right = number(side - product)?;
+    let right = subtracted(side, product)?;
     rows.push_row(layout, row, slacks, right)?;
     Ok(is_negative(right))
 }
@@ -66,7 +66,7 @@ fn push_two_sides(
         entry,
     };
     let negated = push_side(rows, layout, row, first, sides.1, product)?;
-    let gap = number(sides.1 - sides.0)?;
+    let gap = subtracted(sides.1, sides.0)?;
     rows.push_slacks(layout, both, gap)?;
     Ok(negated)
 }
@@ -140,7 +140,7 @@ pub(crate) fn rows_taken(
     for i in 0..p.rows() {
         let equation = rows.len();
         let row = p.entries_of(i);
-        let product = dot(row, h)?;
+        let product = dot_fractions(row, h)?;
         let negated = push_row_equations(rows, layout, row, before, p.row(i), product)?;
         push(&mut firsts, First { equation, negated })?;
         before += slacks_of(p.row(i));
@@ -171,7 +171,7 @@ fn column_taken(
         own: 1,
         entry: Frac::whole(1),
     };
-    let gap = number(high - low)?;
+    let gap = subtracted(high, low)?;
     rows.push_column(layout, at, slacks, gap)?;
     Ok(())
 }

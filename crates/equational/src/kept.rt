@@ -4,11 +4,12 @@ ghost use Rattle.std.specs.Prelude.{◌≡◌, length, IfOk};
 ghost use Rattle.frac_core.specs.Parts.{max_part};
 ghost use Rattle.program_law.specs.Region.{Region};
 ghost use Rattle.program_law.specs.Program.{Program, IsProgram};
-ghost use Rattle.form_law.specs.Solutions.{IsForm};
+ghost use Rattle.equational_law.specs.Solutions.{IsForm};
 ghost use Rattle.rational.specs.Vectors.{IsSymmetric};
-ghost use Rattle.form_law.specs.Form.{direction_of, multipliers_of, point_of};
-ghost use Rattle.form_law.specs.Calculation.{point_in, point_ops, ray_in, ray_ops};
-ghost use Rattle.equational.specs.Formed.{formed, IsAnswer, IsAnswerOf};
+ghost use Rattle.equational_law.specs.Form.{direction_of, multipliers_of, point_of};
+ghost use Rattle.equational_law.specs.Calculation.{point_in, point_ops, ray_in, ray_ops};
+ghost use Rattle.exact_matrix.specs.Stops.{Answers, IsAnswerOf};
+ghost use Rattle.equational.specs.Formed.{formed};
 
 use crate::back::{Carried, columns_back, rows_back};
 use exact_matrix::{Matrix, Stop};
@@ -100,7 +101,7 @@ impl Form {
     /// `Past` with the first of these operations whose exact result doesn't fit, and `Memory`.
     pub fn point_back(&self, alloc: Global, z: &Vector<Frac>) -> Result<Vector<Frac>, Stop>
         requires { length z.now ≡ length self.now.form.cost }
-        ensures calculation { IsAnswer (point_in max_part self.now.region z.now) result }
+        ensures calculation { Answers (λ x. x) result (point_in max_part self.now.region z.now) }
         ensures operations { IsAnswerOf (point_ops self.now.region z.now) result }
         ensures exact { IfOk result (λ x. x ≡ point_of self.now.region z.now) }
     {
@@ -114,7 +115,7 @@ impl Form {
     /// `Past` with the first of these operations whose exact result doesn't fit, and `Memory`.
     pub fn ray_back(&self, alloc: Global, d: &Vector<Frac>) -> Result<Vector<Frac>, Stop>
         requires { length d.now ≡ length self.now.form.cost }
-        ensures calculation { IsAnswer (ray_in max_part self.now.region d.now) result }
+        ensures calculation { Answers (λ x. x) result (ray_in max_part self.now.region d.now) }
         ensures operations { IsAnswerOf (ray_ops self.now.region d.now) result }
         ensures exact { IfOk result (λ x. x ≡ direction_of self.now.region d.now) }
     {

@@ -2,8 +2,8 @@
 
 ghost use Rattle.std.specs.Prelude.{◌≡◌, ◌≤◌, ◌+◌, length, IfOk};
 ghost use Rattle.program_law.specs.Program.{sides};
-ghost use Rattle.form_law.specs.Standing.{standing, parts_at, parts};
-ghost use Rattle.form_law.specs.Equations.{slacks_at, row_slacks, bound_slacks, bound_slacks_by};
+ghost use Rattle.equational_law.specs.Standing.{standing, parts_at, parts};
+ghost use Rattle.equational_law.specs.Equations.{slacks_at, row_slacks, bound_slacks, bound_slacks_by};
 ghost use Rattle.equational.specs.Built.{all_slacks, laid};
 
 use check_steps::same;
@@ -25,8 +25,8 @@ pub(crate) struct Layout {
 
 impl Model for Layout {
     ghost use Rattle.std.specs.Prelude.{◌≡◌, ◌≤◌, ◌+◌, length};
-    ghost use Rattle.form_law.specs.Standing as standings;
-    ghost use Rattle.form_law.specs.Equations.{bound_slacks};
+    ghost use Rattle.equational_law.specs.Standing as standings;
+    ghost use Rattle.equational_law.specs.Equations.{bound_slacks};
     ghost use Rattle.equational.specs.Built.{Laid};
 
     ghost Value = { Laid };

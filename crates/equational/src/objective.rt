@@ -2,51 +2,17 @@
 
 ghost use Rattle.std.specs.Prelude.{◌≡◌, ◌≤◌, length, IfOk};
 ghost use Rattle.frac_core.specs.Parts.{max_part};
-ghost use Rattle.frac_core.specs.Dot.{dot_of, dot_step};
-ghost use Rattle.form_law.specs.Standing.{shift, shift_at, standing};
-ghost use Rattle.form_law.specs.Calculation.{number, products_in, sums_in, constant_in};
-ghost use Rattle.equational.specs.Built.{objective_in, Answers};
+ghost use Rattle.equational_law.specs.Standing.{shift, shift_at, standing};
+ghost use Rattle.equational_law.specs.Calculation.{products_in, sums_in, constant_in};
+ghost use Rattle.exact_matrix.specs.Stops.{Answers};
+ghost use Rattle.equational.specs.Built.{objective_in};
 
 use crate::lists::push;
 use exact_matrix::Stop;
-use frac_core::{Frac, Memory, Tried, is_zero};
+use frac_core::{Frac, Memory, Refused, added, divided, dot_fractions};
 use program_law::Row;
 use program_model::Program;
 use std::alloc::Global;
-
-// An operation's result, or the stop at its refusal.
-pub(crate) fn number(tried: Tried) -> Result<Frac, Stop>
-    ensures { Answers (λ q. q) result (number tried) }
-{
-    match tried {
-        Tried::Is(value) => Ok(value),
-        Tried::Past(refused) => Err(Stop::Past(refused)),
-    }
-}
-
-// The sum with the product of one place.
-#[tactic(auto, unfolding(frac_core::specs::Dot::dot_step), using(crate::proofs::Chains::number_then, crate::proofs::Chains::stops_then))]
-fn product_added(total: Frac, x: Frac, y: Frac) -> Result<Frac, Stop>
-    ensures { Answers (λ q. q) result (number (dot_step max_part total x y)) }
-{
-    if is_zero(x) || is_zero(y) {
-        return Ok(total);
-    }
-    let product = number(x * y)?;
-    number(total + product)
-}
-
-// The product of two vectors.
-pub(crate) fn dot(xs: &[Frac], ys: &[Frac]) -> Result<Frac, Stop>
-    requires { length xs.now ≡ length ys.now }
-    ensures { Answers (λ q. q) result (number (dot_of max_part xs.now ys.now)) }
-{
-    let mut total = Frac::whole(0);
-    for i in 0..xs.len() {
-        total = product_added(total, xs[i], ys[i])?;
-    }
-    Ok(total)
-}
 
 // What is added to a column's change.
 fn shift_of(bounds: Row) -> Frac
@@ -80,7 +46,7 @@ fn products(alloc: Global, p: &Program, h: &[Frac]) -> Result<Vec<Frac>, Stop>
 {
     let mut products = Vec::new(alloc);
     for j in 0..p.columns() {
-        push(&mut products, dot(p.pairs_of(j), h)?)?;
+        push(&mut products, dot_fractions(p.pairs_of(j), h)?)?;
     }
     Ok(products)
 }
@@ -93,23 +59,24 @@ fn sums(alloc: Global, costs: &[Frac], products: &[Frac]) -> Result<Vec<Frac>, S
 {
     let mut sums = Vec::new(alloc);
     for j in 0..costs.len() {
-        push(&mut sums, number(costs[j] + products[j])?)?;
+        push(&mut sums, added(costs[j], products[j])?)?;
     }
     Ok(sums)
 }
 
 // The objective's value at the shift.
-#[tactic(auto, unfolding(form_law::specs::Calculation::constant_in), using(crate::proofs::Chains::stops_then))]
-fn constant(p: &Program, h: &[Frac], products: &[Frac]) -> Result<Frac, Stop>
+#[tactic(auto, unfolding(equational_law::specs::Calculation::constant_in))]
+fn constant(p: &Program, h: &[Frac], products: &[Frac]) -> Result<Frac, Refused>
     requires shift { length h.now ≡ length p.now.columns }
     requires products { length products.now ≡ length h.now }
-    ensures { Answers (λ q. q) result (constant_in max_part p.now h.now products.now) }
+    ensures { result ≡ constant_in max_part p.now h.now products.now }
 {
-    let quadratic = dot(h, products)?;
-    let half = number(quadratic / Frac::whole(2))?;
-    let linear = dot(p.costs(), h)?;
-    let sum = number(p.constant() + linear)?;
-    number(sum + half)
+    let quadratic = dot_fractions(h, products)?;
+    let half = divided(quadratic, Frac::whole(2))?;
+    let linear = dot_fractions(p.costs(), h)?;
+    let sum = added(p.constant(), linear)?;
+    let value = added(sum, half)?;
+    Ok(value)
 }
 
 // The costs of the file's columns and the constant, in the change from the shift.

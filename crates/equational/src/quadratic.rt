@@ -2,8 +2,8 @@
 
 ghost use Rattle.std.specs.Prelude.{◌≡◌, ◌++◌, length, map, IfOk, OnOk};
 ghost use Rattle.exact_matrix.specs.Systems.{joined};
-ghost use Rattle.form_law.specs.Standing.{spread, spread_rows_at, standing};
-ghost use Rattle.form_law.specs.Form.{padded};
+ghost use Rattle.equational_law.specs.Standing.{spread, spread_rows_at, standing};
+ghost use Rattle.equational_law.specs.Form.{padded};
 ghost use Rattle.equational.specs.Built.{all_slacks, quadratic_rows, signed};
 
 use crate::layout::Layout;
@@ -63,17 +63,6 @@ pub(crate) fn quadratic(alloc: Global, layout: &Layout, p: &Program) -> Result<V
     Ok(entries)
 }
 
-// A vector with these items.
-fn vector(alloc: Global, items: &[Frac]) -> Result<Vector<Frac>, Memory>
-    ensures { IfOk result (λ v. v ≡ items.now) }
-{
-    let mut v = Vector::filled(alloc, 0, Frac::whole(0))?;
-    for x in items {
-        v.push(*x)?;
-    }
-    Ok(v)
-}
-
 // The costs of the form's columns.
 pub(crate) fn cost(alloc: Global, layout: &Layout, costs: &[Frac]) -> Result<Vector<Frac>, Memory>
     requires { length costs.now ≡ length layout.now.region }
@@ -81,5 +70,5 @@ pub(crate) fn cost(alloc: Global, layout: &Layout, costs: &[Frac]) -> Result<Vec
 {
     let mut entries = Vec::new(alloc);
     push_padded(&mut entries, layout, costs, false)?;
-    vector(alloc, &entries)
+    Vector::of_slice(alloc, &entries)
 }

@@ -1,10 +1,10 @@
 // Rows of the form's matrices, appended one after another.
 
-ghost use Rattle.std.specs.Prelude.{◌≡◌, ◌≤◌, ◌<◌, ◌+◌, ◌-◌, ◌++◌, ◌∷◌, [], length, replicate, IfOk, OnOk};
+ghost use Rattle.std.specs.Prelude.{◌≡◌, ◌≤◌, ◌<◌, ◌+◌, ◌-◌, ◌++◌, ◌∷◌, [], length, replicate, OnOk};
 ghost use Rattle.rational.specs.Rational.{one_ℚ};
 ghost use Rattle.rational.specs.Vectors.{zeros};
 ghost use Rattle.program_law.specs.Tests.{is_negative};
-ghost use Rattle.form_law.specs.Standing.{parts, spread, spread_at, standing};
+ghost use Rattle.equational_law.specs.Standing.{parts, spread, spread_at, standing};
 ghost use Rattle.equational.specs.Built.{all_slacks, signed, signed_by, ended, with_equation};
 
 use crate::layout::Layout;
@@ -92,14 +92,13 @@ impl Model for Rows {
 }
 
 impl Rows {
-    pub(crate) fn new(alloc: Global) -> Result<Rows, Memory>
-        ensures { IfOk result (λ rows. rows ≡ record { entries = []; right = [] }) }
+    pub(crate) fn new(alloc: Global) -> Rows
+        ensures { result ≡ record { entries = []; right = [] } }
     {
-        let right = Vector::filled(alloc, 0, Frac::whole(0))?;
-        Ok(Rows {
+        Rows {
             entries: Vec::new(alloc),
-            right,
-        })
+            right: Vector::new(alloc),
+        }
     }
 
     // How many equations there are.

@@ -1,66 +1,75 @@
 -- The answers on systems and inverses are those of the elimination, and right.
 use Rattle.std.proofs.Common.{◌≡◌, ℕ, ◌*◌, List, length, map, Option, Some, None, sym, ap, ◌∙◌, subst, refl}
-use Rattle.std.specs.Prelude.{Ok, Err}
+use Rattle.std.specs.Prelude.{Result, Ok, Err}
+use Rattle.std.specs.List.{All}
 use Rattle.std.specs.Option.{option_map}
 use Rattle.rational.specs.Rational.{ℚ}
 use Rattle.rational.specs.Vectors.{HasColumns}
+use Rattle.frac_core.specs.Operations.{IsWithin}
 use Rattle.frac_core.specs.declared.fractions.Refused.{Refused}
 use Rattle.exact_matrix.specs.declared.systems.Stop.{Stop}
 use Rattle.exact_matrix.specs.declared.systems.Stop.TheVariants.{Memory, Past}
 use Rattle.exact_matrix.specs.Elimination.{Line, eliminated}
 use Rattle.exact_matrix.specs.EliminationAnswers.{Answer, answer_of, solved, inverse, inverse_from, lines_of, solve_rows, invert_rows}
-use Rattle.exact_matrix.specs.EliminationCalculation.{eliminated_in, ended}
+use Rattle.exact_matrix.specs.EliminationCalculation.{eliminated_in}
 use Rattle.exact_matrix.specs.EliminationMeaning.{IsRight, IsInverseOrDepends}
-use Rattle.exact_matrix.specs.EliminationOperations.{elimination_ops, first_past}
+use Rattle.exact_matrix.specs.EliminationOperations.{elimination_ops}
 use Rattle.exact_matrix.specs.Grid.{Grid, IsGrid, rows_of}
 use Rattle.exact_matrix.specs.State.{values}
-use Rattle.exact_matrix.specs.Systems.{IsStop, IsStopOf, joined}
-use Rattle.exact_matrix.proofs.EliminationCalculated.{eliminated_in-is, first_past-found}
+use Rattle.exact_matrix.specs.Stops.{IsFirstStop, Stops}
+use Rattle.exact_matrix.specs.Systems.{joined}
+use Rattle.exact_matrix.proofs.EliminationCalculated.{eliminated_in-exact, eliminated_in-first, eliminated_in-within}
 use Rattle.exact_matrix.proofs.EliminationInverted.{inverse_or_depends}
 use Rattle.exact_matrix.proofs.EliminationSolved.{answer_is_right}
 use Rattle.exact_matrix.proofs.EliminationWithout.{solve_rows_width}
 use Rattle.exact_matrix.proofs.Assembled.{assembled, assembled_length, invert_rows_width, values_width, values_length}
 use Rattle.std.proofs.lemmas.List.{length-map}
 
-ended_ok : {A : Type 0} (o : Option Refused) (x y : A) → ended o x ≡ Ok y → y ≡ x
-ended_ok None x y h = cc
-ended_ok (Some r) x y h = absurd cc
+-- the same rows are eliminated, of which there may be two names
+module _ (top k n w : ℕ) (rows given : List (List ℚ)) (wide : HasColumns w rows) (same : given ≡ rows) (columns : k ≡ n) where
+  as_named : (r : Result (List Line) Refused) → eliminated_in top k (lines_of given) ≡ r → eliminated_in top n (lines_of rows) ≡ r
+  as_named r e = ap (λ n. eliminated_in top n (lines_of rows)) (sym columns) ∙ ap (λ g. eliminated_in top k (lines_of g)) (sym same) ∙ e
 
-ended_err : {A : Type 0} (o : Option Refused) (x : A) (r : Refused) → ended o x ≡ Err r → o ≡ Some r
-ended_err None x r h = absurd cc
-ended_err (Some s) x r h = cc
+  -- the lines are exact
+  exact : (ls : List Line) → eliminated_in top k (lines_of given) ≡ Ok ls → ls ≡ eliminated n (lines_of rows)
+  exact ls e = eliminated_in-exact top n w rows ls wide (as_named (Ok ls) e)
 
--- the lines are exact
-exact : (top k n w : ℕ) (rows given : List (List ℚ)) (ls : List Line) → HasColumns w rows → given ≡ rows → k ≡ n → eliminated_in top k (lines_of given) ≡ Ok ls → ls ≡ eliminated n (lines_of rows)
-exact top k n w rows given ls h e f k2 =
-    ended_ok (first_past top (elimination_ops n (lines_of rows))) (eliminated n (lines_of rows)) ls
-    (sym (eliminated_in-is top n w rows h) ∙ ap (λ n. eliminated_in top n (lines_of rows)) (sym f) ∙ ap (λ g. eliminated_in top k (lines_of g)) (sym e) ∙ k2)
+  within : (ls : List Line) → eliminated_in top k (lines_of given) ≡ Ok ls → All (IsWithin top) (elimination_ops n (lines_of rows))
+  within ls e = eliminated_in-within top n w rows ls wide (as_named (Ok ls) e)
 
--- the refusal is the first
-stopped : (top k n w : ℕ) (rows given : List (List ℚ)) (stop : Stop) → HasColumns w rows → given ≡ rows → k ≡ n → IsStop stop (eliminated_in top k (lines_of given)) → IsStopOf top (elimination_ops n (lines_of rows)) stop
-stopped top k n w rows given Memory h e f s = tt
-stopped top k n w rows given (Past r) h e f s =
-    let first : first_past top (elimination_ops n (lines_of rows)) ≡ Some r =
-    ended_err (first_past top (elimination_ops n (lines_of rows))) (eliminated n (lines_of rows)) r
-    (sym (eliminated_in-is top n w rows h) ∙ ap (λ n. eliminated_in top n (lines_of rows)) (sym f) ∙ ap (λ g. eliminated_in top k (lines_of g)) (sym e) ∙ s) in
-    let found = first_past-found top (elimination_ops n (lines_of rows)) r first in
-    record { first = first; stands = found.0; past = found.1 }
+  stopped : (stop : Stop) → Stops stop (eliminated_in top k (lines_of given)) → IsFirstStop top (elimination_ops n (lines_of rows)) stop
+  stopped Memory e = tt
+  stopped (Past r) e = eliminated_in-first top n w rows r wide (as_named (Err r) e)
 
-pub solve_stopped : {F : Type 0} (v : F → ℚ) (m s : Grid F) (r : List F) (top n : ℕ) (stop : Stop) → IsGrid m → n ≡ m.columns → values v s ≡ solve_rows (values v m) (map v r) →
-    IsStop stop (eliminated_in top n (lines_of (values v s))) → IsStopOf top (elimination_ops m.columns (lines_of (solve_rows (values v m) (map v r)))) stop
-solve_stopped v m s r top n stop h f e k =
-    stopped top n m.columns _ (solve_rows (values v m) (map v r)) (values v s) stop (solve_rows_width m.columns (values v m) (map v r) (values_width v m h)) e f k
+module _ {F : Type 0} (v : F → ℚ) (m s : Grid F) (r : List F) (top n : ℕ) (shape : IsGrid m) (columns : n ≡ m.columns) (same : values v s ≡ solve_rows (values v m) (map v r)) where
+  abbrev solve_list : List Refused
+  solve_list = elimination_ops m.columns (lines_of (solve_rows (values v m) (map v r)))
 
-pub invert_stopped : {F : Type 0} (v : F → ℚ) (m s : Grid F) (top n : ℕ) (stop : Stop) → IsGrid m → n ≡ m.columns → values v s ≡ invert_rows (values v m) →
-    IsStop stop (eliminated_in top n (lines_of (values v s))) → IsStopOf top (elimination_ops m.columns (lines_of (invert_rows (values v m)))) stop
-invert_stopped v m s top n stop h f e k =
-    stopped top n m.columns _ (invert_rows (values v m)) (values v s) stop (invert_rows_width m.columns (values v m) (values_width v m h)) e f k
+  pub solve_within : (ls : List Line) → eliminated_in top n (lines_of (values v s)) ≡ Ok ls → All (IsWithin top) solve_list
+  solve_within ls e =
+      within top n m.columns _ (solve_rows (values v m) (map v r)) (values v s) (solve_rows_width m.columns (values v m) (map v r) (values_width v m shape)) same columns ls e
+
+  pub solve_stopped : (stop : Stop) → Stops stop (eliminated_in top n (lines_of (values v s))) → IsFirstStop top solve_list stop
+  solve_stopped stop e =
+      stopped top n m.columns _ (solve_rows (values v m) (map v r)) (values v s) (solve_rows_width m.columns (values v m) (map v r) (values_width v m shape)) same columns stop e
+
+module _ {F : Type 0} (v : F → ℚ) (m s : Grid F) (top n : ℕ) (shape : IsGrid m) (columns : n ≡ m.columns) (same : values v s ≡ invert_rows (values v m)) where
+  abbrev invert_list : List Refused
+  invert_list = elimination_ops m.columns (lines_of (invert_rows (values v m)))
+
+  pub invert_within : (ls : List Line) → eliminated_in top n (lines_of (values v s)) ≡ Ok ls → All (IsWithin top) invert_list
+  invert_within ls e =
+      within top n m.columns _ (invert_rows (values v m)) (values v s) (invert_rows_width m.columns (values v m) (values_width v m shape)) same columns ls e
+
+  pub invert_stopped : (stop : Stop) → Stops stop (eliminated_in top n (lines_of (values v s))) → IsFirstStop top invert_list stop
+  invert_stopped stop e =
+      stopped top n m.columns _ (invert_rows (values v m)) (values v s) (invert_rows_width m.columns (values v m) (values_width v m shape)) same columns stop e
 
 pub solve_answered : {F : Type 0} (v : F → ℚ) (m s : Grid F) (r : List F) (top n : ℕ) (ls : List Line) (a : Answer) → IsGrid m → n ≡ m.columns → values v s ≡ solve_rows (values v m) (map v r) →
     eliminated_in top n (lines_of (values v s)) ≡ Ok ls → a ≡ answer_of n ls → a ≡ solved m.columns (values v m) (map v r)
 solve_answered v m s r top n ls a h f e k l =
     l ∙ ap (λ n. answer_of n ls) f
-    ∙ ap (answer_of m.columns) (exact top n m.columns _ (solve_rows (values v m) (map v r)) (values v s) ls (solve_rows_width m.columns (values v m) (map v r) (values_width v m h)) e f k)
+    ∙ ap (answer_of m.columns) (exact top n m.columns _ (solve_rows (values v m) (map v r)) (values v s) (solve_rows_width m.columns (values v m) (map v r) (values_width v m h)) e f ls k)
 
 pub solve_right : {F : Type 0} (v : F → ℚ) (m : Grid F) (r : List F) (a : Answer) → IsGrid m → length r ≡ length m.rows → a ≡ solved m.columns (values v m) (map v r) →
     IsRight m.columns (values v m) (map v r) a
@@ -83,7 +92,7 @@ inverse_is : {F : Type 0} (v : F → ℚ) (m s : Grid F) (top n : ℕ) (ls : Lis
     eliminated_in top n (lines_of (values v s)) ≡ Ok ls → inverse_from n 0 n ls ≡ inverse m.columns (values v m)
 inverse_is v m s top n ls h f e k =
     ap (λ n. inverse_from n 0 n ls) f
-    ∙ ap (inverse_from m.columns 0 m.columns) (exact top n m.columns _ (invert_rows (values v m)) (values v s) ls (invert_rows_width m.columns (values v m) (values_width v m h)) e f k)
+    ∙ ap (inverse_from m.columns 0 m.columns) (exact top n m.columns _ (invert_rows (values v m)) (values v s) (invert_rows_width m.columns (values v m) (values_width v m h)) e f ls k)
 
 pub invert_right : {F : Type 0} (v : F → ℚ) (m : Grid F) (o : Option (List (List ℚ))) → IsGrid m → length m.rows ≡ m.columns → o ≡ inverse m.columns (values v m) →
     IsInverseOrDepends m.columns (values v m) o

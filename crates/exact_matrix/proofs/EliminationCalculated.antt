@@ -3,33 +3,29 @@ use Rattle.std.proofs.Common.{◌≡◌, ℕ, zero, suc, List, [], ◌∷◌, �
 use Rattle.std.specs.Prelude.{Result, Ok, Err}
 use Rattle.std.specs.List.{AllByRecursion, All, Contains}
 use Rattle.std.proofs.lemmas.List.Elements.{All-head, All-nil, All-cons, All-contains_itself, Contains-append_right}
-use Rattle.rational.specs.Rational.{Fits}
-use Rattle.rational.specs.Vectors.{HasColumns}
+use Rattle.rational.specs.Rational.{Fits, ℚ, zero_ℚ, ◌+ℚ◌, ◌-ℚ◌, ◌*ℚ◌, ◌/ℚ◌, neg_ℚ, reciprocal, fits}
+use Rattle.rational.specs.Vectors.{HasColumns, add_each, scale}
 use Rattle.rational.proofs.Fits.{fits_yes}
 use Rattle.std.proofs.lemmas.Bool.Decides.{nat_tests}
 use Rattle.exact_matrix.specs.EliminationAnswers.{lines_of}
-use Rattle.exact_matrix.specs.Elimination.{eliminated}
-use Rattle.exact_matrix.specs.EliminationOperations.{elimination_ops}
-use Rattle.exact_matrix.specs.EliminationCalculation.{eliminated_in}
+use Rattle.exact_matrix.specs.Elimination.{eliminated, Line, is_pivot, pivot_row, with_pivot, divided, freed, step, eliminated_from}
+use Rattle.exact_matrix.specs.EliminationOperations.{elimination_ops, first_past, division_ops, less_ops, freed_ops, each_freed_ops, step_ops, ops_from}
+use Rattle.exact_matrix.specs.EliminationCalculation.{eliminated_in, ended, divide_step, divided_in, with_entries, freed_in, line_then, each_freed_in, cleared_by, step_in, eliminated_from_in}
 use Rattle.algebra.proofs.Ring as laws
 use Rattle.algebra.proofs.Polynomial.{minus, ◌⊕◌, ◌⊝◌, ◌⊗◌, ◌≐◌, lit}
 use Rattle.algebra.proofs.Solver.{ring}
-use Rattle.rational.specs.Rational.{ℚ, zero_ℚ, ◌+ℚ◌, ◌-ℚ◌, ◌*ℚ◌, ◌/ℚ◌, neg_ℚ, reciprocal, fits}
 use Rattle.rational.specs.Order.{same_fields, same_fields_lem}
 use Rattle.rational.specs.Sums.{entry}
-use Rattle.rational.specs.Vectors.{add_each, scale}
 use Rattle.rational.proofs.Field.{rationals}
 use Rattle.frac_core.specs.declared.fractions.Op.{Op}
 use Rattle.frac_core.specs.declared.fractions.Op.TheVariants.{Sub, Mul, Div}
 use Rattle.frac_core.specs.declared.fractions.Refused.{Refused}
 use Rattle.frac_core.specs.declared.fractions.Tried.{Tried}
 use Rattle.frac_core.specs.declared.fractions.Tried.TheVariants.{Is, Past}
-use Rattle.frac_core.specs.Calculated.{tried_in, and_then, exact_of}
+use Rattle.frac_core.specs.Calculated.{tried_in, and_then, exact_of, ◌>>=◌}
 use Rattle.frac_core.specs.Row.{less_step, Row, Entries, Refusal, entry_then, row_less}
 use Rattle.frac_core.proofs.RowLemmas.{less_zero, less_more}
-use Rattle.exact_matrix.specs.Elimination.{Line, is_pivot, pivot_row, with_pivot, divided, freed, step, eliminated_from}
-use Rattle.exact_matrix.specs.EliminationOperations.{operation, first_past, division_ops, less_ops, freed_ops, each_freed_ops, step_ops, ops_from}
-use Rattle.exact_matrix.specs.EliminationCalculation.{then_with, ended, divide_step, divided_in, with_entries, freed_in, line_then, each_freed_in, cleared_by, step_in, eliminated_from_in}
+use Rattle.frac_core.specs.Operations.{operation, IsFirstPast, IsWithin}
 use Rattle.exact_matrix.proofs.EliminationLines.{bool_cases, by_pivot_row, step-none, step-some, freed-pivot, freed-other, eliminated-end, eliminated-more, HasWidth, width-step, width-with_pivot, width-lines_of}
 
 -- ---- the first operation that is past
@@ -335,7 +331,7 @@ eliminated_in-end : (top j : ℕ) (ls : List Line) → eliminated_from_in top ze
 unfolding eliminated_from_in
 eliminated_in-end top j ls = refl
 
-eliminated_in-more : (top k j : ℕ) (ls : List Line) → eliminated_from_in top (suc k) j ls ≡ then_with (step_in top j ls) (λ next. eliminated_from_in top k (suc j) next)
+eliminated_in-more : (top k j : ℕ) (ls : List Line) → eliminated_from_in top (suc k) j ls ≡ (step_in top j ls >>= λ next. eliminated_from_in top k (suc j) next)
 unfolding eliminated_from_in
 eliminated_in-more top k j ls = refl
 
@@ -347,7 +343,7 @@ pub ops_from-more : (k j : ℕ) (ls : List Line) → ops_from (suc k) j ls ≡ s
 unfolding ops_from
 ops_from-more k j ls = refl
 
-then_ended : {A B : Type 0} (o u : Option Refused) (x : A) (f : A → Result B Refused) (y : B) → f x ≡ ended u y → then_with (ended o x) f ≡ ended (either_first o u) y
+then_ended : {A B : Type 0} (o u : Option Refused) (x : A) (f : A → Result B Refused) (y : B) → f x ≡ ended u y → (ended o x >>= f) ≡ ended (either_first o u) y
 then_ended None u x f y h = h
 then_ended (Some r) u x f y h = refl
 
@@ -355,7 +351,7 @@ pub eliminated_from_in-is : (top w k j : ℕ) (ls : List Line) → HasWidth w ls
 eliminated_from_in-is top w zero j ls h =
     eliminated_in-end top j ls ∙ no_ops top (ops_from zero j ls) ls (ops_from-end j ls) ∙ ap (ended (first_past top (ops_from zero j ls))) (sym (eliminated-end j ls))
 eliminated_from_in-is top w (suc k) j ls h =
-    eliminated_in-more top k j ls ∙ ap (λ r. then_with r (λ next. eliminated_from_in top k (suc j) next)) (step_in-is top w j ls h)
+    eliminated_in-more top k j ls ∙ ap (λ r. r >>= λ next. eliminated_from_in top k (suc j) next) (step_in-is top w j ls h)
     ∙ then_ended (first_past top (step_ops j ls)) (first_past top (ops_from k (suc j) (step j ls))) (step j ls) (λ next. eliminated_from_in top k (suc j) next) (eliminated_from k (suc j) (step j ls))
     (eliminated_from_in-is top w k (suc j) (step j ls) (width-step w j ls h))
     ∙ ap (λ o. ended o (eliminated_from k (suc j) (step j ls))) (sym (first_past-append top (step_ops j ls) (ops_from k (suc j) (step j ls))))
@@ -391,6 +387,29 @@ first_past-missing top (s ∷ ops) h = bool_cases (fits top (exact_of s.op s.lef
     (λ e. All-cons (λ r. Fits top (exact_of r.op r.left r.right)) s ops (fits_told top (exact_of s.op s.left s.right) e) (first_past-missing top ops (sym (first_past-fits top s ops e) ∙ h)))
     (λ e. absurd (let bad : Some s ≡ None = sym (first_past-past top s ops e) ∙ h in cc))
 
+-- it is the first
+pub first_past-first : (top : ℕ) (ops : List Refused) (r : Refused) → first_past top ops ≡ Some r → IsFirstPast top ops r
+first_past-first top [] r h = absurd (let bad : None ≡ Some r = sym (first_past-none top) ∙ h in cc)
+first_past-first top (s ∷ ops) r h = bool_cases (fits top (exact_of s.op s.left s.right))
+    (λ e.
+    let t = first_past-first top ops r (sym (first_past-fits top s ops e) ∙ h) in
+    record {
+      earlier = s ∷ t.earlier;
+      later = t.later;
+      place = ap (λ l. s ∷ l) t.place;
+      within = All-cons (IsWithin top) s t.earlier (fits_told top (exact_of s.op s.left s.right) e) t.within;
+      past = t.past;
+    })
+    (λ e.
+    let same : s ≡ r = some_refused s r (sym (first_past-past top s ops e) ∙ h) in
+    record {
+      earlier = [];
+      later = ops;
+      place = ap (λ (r : Refused). r ∷ ops) same;
+      within = All-nil (IsWithin top);
+      past = (first_past-found top (s ∷ ops) r h).1;
+    })
+
 -- ---- what comes of a calculation that ends with lines, and of one that ends with a refusal
 
 ended_ok : {A : Type 0} (o : Option Refused) (x y : A) → ended o x ≡ Ok y → (o ≡ None) × (y ≡ x)
@@ -404,6 +423,18 @@ ended_err (Some s) x r h = cc
 pub eliminated_in-exact : (top n w : ℕ) (rows : List (List ℚ)) (ls : List Line) → HasColumns w rows → eliminated_in top n (lines_of rows) ≡ Ok ls → ls ≡ eliminated n (lines_of rows)
 eliminated_in-exact top n w rows ls h e =
     (ended_ok (first_past top (elimination_ops n (lines_of rows))) (eliminated n (lines_of rows)) ls (sym (eliminated_in-is top n w rows h) ∙ e)).1
+
+-- no operation is past where there are lines
+pub eliminated_in-within : (top n w : ℕ) (rows : List (List ℚ)) (ls : List Line) → HasColumns w rows → eliminated_in top n (lines_of rows) ≡ Ok ls → All (IsWithin top) (elimination_ops n (lines_of rows))
+eliminated_in-within top n w rows ls h e =
+    first_past-missing top (elimination_ops n (lines_of rows))
+    (ended_ok (first_past top (elimination_ops n (lines_of rows))) (eliminated n (lines_of rows)) ls (sym (eliminated_in-is top n w rows h) ∙ e)).0
+
+-- the refusal is the first operation that is past
+pub eliminated_in-first : (top n w : ℕ) (rows : List (List ℚ)) (r : Refused) → HasColumns w rows → eliminated_in top n (lines_of rows) ≡ Err r → IsFirstPast top (elimination_ops n (lines_of rows)) r
+eliminated_in-first top n w rows r h e =
+    first_past-first top (elimination_ops n (lines_of rows)) r
+    (ended_err (first_past top (elimination_ops n (lines_of rows))) (eliminated n (lines_of rows)) r (sym (eliminated_in-is top n w rows h) ∙ e))
 
 pub eliminated_in-refused : (top n w : ℕ) (rows : List (List ℚ)) (r : Refused) → HasColumns w rows → eliminated_in top n (lines_of rows) ≡ Err r
     → Contains (elimination_ops n (lines_of rows)) r × ¬ (Fits top (exact_of r.op r.left r.right))

@@ -12,7 +12,8 @@ use Rattle.frac_core.specs.declared.fractions.Op.TheVariants.{Sub, Mul, Div}
 use Rattle.frac_core.specs.declared.fractions.Refused.{Refused}
 use Rattle.exact_matrix.specs.Elimination.{Line, unused, is_pivot, is_unused, may_pivot, pivot_row, with_pivot, divided, freed, step, eliminated, eliminated_from}
 use Rattle.exact_matrix.specs.EliminationAnswers.{beside, right_beside, unit_matrix, solve_rows, invert_rows, lines_of, row_of_pivot}
-use Rattle.exact_matrix.specs.EliminationOperations.{operation, division_ops, less_ops, freed_ops, each_freed_ops, step_ops, ops_from, elimination_ops}
+use Rattle.frac_core.specs.Operations.{operation}
+use Rattle.exact_matrix.specs.EliminationOperations.{division_ops, less_ops, freed_ops, each_freed_ops, step_ops, ops_from, elimination_ops}
 use Rattle.exact_matrix.specs.EliminationTails.{without, line_without}
 use Rattle.exact_matrix.proofs.EliminationPivots.{row_of_pivot-none, row_of_pivot-here, row_of_pivot-later}
 use Rattle.exact_matrix.proofs.EliminationVectors.{length-unit_rows, width-unit_rows, width-right_beside, width-beside}

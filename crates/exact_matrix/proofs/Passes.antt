@@ -1,8 +1,5 @@
 -- A row divided by a number: one place after another.
 use Rattle.std.proofs.Common.{◌≡◌, ℕ, true, false, zero, suc, ◌+◌, ◌≤◌, ◌<◌, Some, List, [], ◌∷◌, ◌++◌, length, take, drop, slice_get, sym, ap, ◌∙◌, refl, add-one, append_assoc}
-use Rattle.std.proofs.Common.{map, get_or}
-use Rattle.std.specs.Option.{option_map}
-use Rattle.std.proofs.lemmas.Option.{slice_get-map, slice_get_read}
 use Rattle.std.proofs.Math.ListN.{set, drop_of_length-le}
 use Rattle.std.proofs.lemmas.List.{take_more_set, take_all, append-nil}
 use Rattle.rational.specs.Rational.{ℚ, zero_ℚ}
@@ -55,7 +52,3 @@ divided_past top q xs i x r h e = ap (append_row (take i xs)) (divided_next top 
 pub divided_end : (top : ℕ) (q : ℚ) (xs : List ℚ) (i : ℕ) → length xs ≤ i → append_row (take i xs) (divided_in top q (drop i xs)) ≡ Entries xs
 unfolding divided_in
 divided_end top q xs i h = rw (drop_of_length-le xs h) (ap Entries (append-nil (take i xs) ∙ take_all i xs h))
-
--- the number of an entry that is read
-pub number_read : {F : Type 0} (v : F → ℚ) (xs : List F) (i : ℕ) (x : F) → i < length xs → x ≡ get_or xs i x → slice_get (map v xs) i ≡ Some (v x)
-number_read v xs i x h e = slice_get-map v xs i ∙ ap (option_map v) (slice_get_read xs (length xs) i x refl h e)

@@ -12,8 +12,9 @@ use Rattle.rational.proofs.Wholes.{num-ne_of_test}
 use Rattle.frac_core.specs.declared.fractions.Refused.{Refused}
 use Rattle.exact_matrix.specs.Grid.{Grid, row_at, with_row}
 use Rattle.exact_matrix.specs.Elimination.{Line, used, is_pivot, is_unused, may_pivot, pivot_row, with_pivot}
-use Rattle.exact_matrix.specs.EliminationCalculation.{freed_in, each_freed_in, line_then, with_entries, divided_in, cleared_by, step_in_by, step_in, then_with, eliminated_from_in}
-use Rattle.exact_matrix.specs.State.{lines, state, IsLine, IsPivotAt, IsSameShape}
+use Rattle.exact_matrix.specs.EliminationCalculation.{freed_in, each_freed_in, line_then, with_entries, divided_in, cleared_by, step_in_by, step_in, eliminated_from_in}
+use Rattle.exact_matrix.specs.State.{lines, state, IsPivotAt, IsSameShape}
+use Rattle.frac_core.specs.Calculated.{◌>>=◌, Leaves}
 use Rattle.frac_core.specs.Row.{Row, Entries, Refusal, IsRow, row_less}
 use Rattle.exact_matrix.proofs.Passes.{drop_after_set}
 
@@ -160,7 +161,7 @@ freed_more top j p l h k = rw (h, k)
 
 -- a row that is taken from stands for a line
 pub taken_line : {F : Type 0} (v : F → ℚ) (result : Result (Unit {0}) Refused) (pivot : Option ℕ) (row : List F) (r : Row) →
-    IsRow v result row r → IsLine result (line pivot (map v row)) (with_entries pivot r)
+    IsRow v result row r → Leaves (line pivot (map v row)) result (with_entries pivot r)
 taken_line v (Ok u) pivot row r h = ap (with_entries pivot) h
 taken_line v (Err e) pivot row r h = ap (with_entries pivot) h
 
@@ -247,7 +248,7 @@ cleared_by_copy v top j ps qs m g i q p row a e d r s t u =
     ∙ ap (λ row. each_freed_in top j (map v row) (state v (set ps i (Some j)) g)) (sym (t ∙ u))
     ∙ ap (λ ps. each_freed_in top j (map v p) (state v ps g)) (sym s)
 
-columns_next : (top k n j : ℕ) (ls : List Line) → k ≡ suc n → eliminated_from_in top k j ls ≡ then_with (step_in top j ls) (λ next. eliminated_from_in top n (suc j) next)
+columns_next : (top k n j : ℕ) (ls : List Line) → k ≡ suc n → eliminated_from_in top k j ls ≡ (step_in top j ls >>= λ next. eliminated_from_in top n (suc j) next)
 unfolding eliminated_from_in
 columns_next top k n j ls e = rw e
 
@@ -255,13 +256,13 @@ columns_next top k n j ls e = rw e
 pub columns_more : (top n j : ℕ) (ls ms : List Line) → j < n → step_in top j ls ≡ Ok ms → eliminated_from_in top (n - (j + 1)) (j + 1) ms ≡ eliminated_from_in top (n - j) j ls
 columns_more top n j ls ms h e =
     let k : n - j ≡ suc (n - (j + 1)) = omega arith in let s : j + 1 ≡ suc j = omega arith in
-    sym (columns_next top (n - j) (n - (j + 1)) j ls k ∙ ap (λ (r : Result (List Line) Refused). then_with r (λ next. eliminated_from_in top (n - (j + 1)) (suc j) next)) e
+    sym (columns_next top (n - j) (n - (j + 1)) j ls k ∙ ap (λ (r : Result (List Line) Refused). r >>= λ next. eliminated_from_in top (n - (j + 1)) (suc j) next) e
     ∙ ap (λ i. eliminated_from_in top (n - (j + 1)) i ms) (sym s))
 
 pub columns_past : (top n j : ℕ) (ls : List Line) (r : Refused) → j < n → step_in top j ls ≡ Err r → eliminated_from_in top (n - j) j ls ≡ Err r
 columns_past top n j ls r h e =
     let k : n - j ≡ suc (n - (j + 1)) = omega arith in
-    columns_next top (n - j) (n - (j + 1)) j ls k ∙ ap (λ (r : Result (List Line) Refused). then_with r (λ next. eliminated_from_in top (n - (j + 1)) (suc j) next)) e
+    columns_next top (n - j) (n - (j + 1)) j ls k ∙ ap (λ (r : Result (List Line) Refused). r >>= λ next. eliminated_from_in top (n - (j + 1)) (suc j) next) e
 
 pub columns_end : (top n j : ℕ) (ls : List Line) → n ≤ j → eliminated_from_in top (n - j) j ls ≡ Ok ls
 unfolding eliminated_from_in

@@ -6,7 +6,8 @@ use Rattle.rational.specs.Rational.{ℚ, whole, fraction, ratio, neg_ℚ, recipr
 use Rattle.exact_matrix.specs.Elimination.{Line, pivot_row, with_pivot, freed, step, eliminated_from}
 use Rattle.exact_matrix.specs.EliminationAnswers.{row_of_pivot, Answer, Solution, Refutation, solved, inverse, lines_of, solve_rows}
 use Rattle.exact_matrix.specs.EliminationCalculation.{divide_step, divided_in, freed_in, each_freed_in, step_in, eliminated_from_in, eliminated_in}
-use Rattle.exact_matrix.specs.EliminationOperations.{operation, division_ops, less_ops, freed_ops, each_freed_ops, step_ops, ops_from, elimination_ops}
+use Rattle.frac_core.specs.Operations.{operation}
+use Rattle.exact_matrix.specs.EliminationOperations.{division_ops, less_ops, freed_ops, each_freed_ops, step_ops, ops_from, elimination_ops}
 use Rattle.frac_core.specs.declared.fractions.Op.{Op}
 use Rattle.frac_core.specs.declared.fractions.Op.TheVariants.{Sub, Mul, Div}
 use Rattle.frac_core.specs.declared.fractions.Refused.{Refused}

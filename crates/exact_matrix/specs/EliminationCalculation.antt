@@ -8,14 +8,9 @@ use Rattle.frac_core.specs.declared.fractions.Op.TheVariants.{Div}
 use Rattle.frac_core.specs.declared.fractions.Refused.{Refused}
 use Rattle.frac_core.specs.declared.fractions.Tried.{Tried}
 use Rattle.frac_core.specs.declared.fractions.Tried.TheVariants.{Is}
-use Rattle.frac_core.specs.Calculated.{tried_in}
+use Rattle.frac_core.specs.Calculated.{◌>>=◌, tried_in}
 use Rattle.frac_core.specs.Row.{Row, Entries, Refusal, entry_then, row_less}
 use Rattle.exact_matrix.specs.Elimination.{Line, is_pivot, pivot_row, with_pivot}
-
--- one part after another, up to the first refusal
-abbrev pub then_with : {A B : Type 0} → Result A Refused → (A → Result B Refused) → Result B Refused
-then_with (Ok x) f = f x
-then_with (Err r) f = Err r
 
 -- the first refusal, and else this value
 abbrev pub ended : {A : Type 0} → Option Refused → A → Result A Refused
@@ -70,7 +65,7 @@ step_in top j ls = step_in_by top j ls (pivot_row j ls)
 -- the lines after k columns from column j on
 unfoldable pub eliminated_from_in : ℕ → ℕ → ℕ → List Line → Result (List Line) Refused
 eliminated_from_in top zero j ls = Ok ls
-eliminated_from_in top (suc k) j ls = then_with (step_in top j ls) (λ next. eliminated_from_in top k (suc j) next)
+eliminated_from_in top (suc k) j ls = step_in top j ls >>= λ next. eliminated_from_in top k (suc j) next
 
 -- the lines after the first n columns
 abbrev pub eliminated_in : ℕ → ℕ → List Line → Result (List Line) Refused

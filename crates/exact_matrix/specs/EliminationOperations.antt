@@ -5,15 +5,11 @@ use Rattle.std.specs.Prelude.{ℕ, zero, suc, List, [], ◌∷◌, ◌++◌, Opt
 use Rattle.rational.specs.Rational.{ℚ, zero_ℚ, ◌*ℚ◌, fits}
 use Rattle.rational.specs.Order.{same_fields}
 use Rattle.rational.specs.Sums.{entry}
-use Rattle.frac_core.specs.declared.fractions.Op.{Op}
 use Rattle.frac_core.specs.declared.fractions.Op.TheVariants.{Sub, Mul, Div}
 use Rattle.frac_core.specs.declared.fractions.Refused.{Refused}
 use Rattle.frac_core.specs.Calculated.{exact_of}
+use Rattle.frac_core.specs.Operations.{operation}
 use Rattle.exact_matrix.specs.Elimination.{Line, is_pivot, pivot_row, with_pivot, divided, step}
-
--- an operation and its operands
-abbrev pub operation : Op → ℚ → ℚ → Refused
-operation op p q = record { op = op; left = p; right = q }
 
 -- the first operation whose result has a part above top
 unfoldable pub first_past : ℕ → List Refused → Option Refused

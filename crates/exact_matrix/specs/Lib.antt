@@ -7,3 +7,4 @@ pub mod EliminationMeaning
 pub mod EliminationTails
 pub mod State
 pub mod Systems
+pub mod Stops

@@ -1,8 +1,7 @@
 -- What the program holds while it eliminates: the rows, and for each row the column that has its pivot in it.
-use Rattle.std.specs.Prelude.{◌≡◌, ◌≢◌, ◌<◌, ℕ, pos, List, [], ◌∷◌, map, length, slice_set, Option, Some, None, Result, Ok, Err}
+use Rattle.std.specs.Prelude.{◌≡◌, ◌≢◌, ◌<◌, ℕ, pos, List, [], ◌∷◌, map, length, slice_set, Option, Some, None}
 use Rattle.rational.specs.Rational.{ℚ}
 use Rattle.rational.specs.Sums.{entry}
-use Rattle.frac_core.specs.declared.fractions.Refused.{Refused}
 use Rattle.exact_matrix.specs.Grid.{Grid, row_at}
 use Rattle.exact_matrix.specs.Elimination.{Line, used, pivot_row, with_pivot}
 
@@ -19,16 +18,6 @@ values value m = map (map value) m.rows
 -- the lines that the program holds
 abbrev pub state : {F : Type 0} → (F → ℚ) → List (Option ℕ) → Grid F → List Line
 state value ps m = lines ps (values value m)
-
--- the program ends with these entries in a line, or with that refusal
-abbrev pub IsLine : Result (Unit {0}) Refused → Line → Result Line Refused → Type 0
-IsLine (Ok u) l r = r ≡ Ok l
-IsLine (Err e) l r = r ≡ Err e
-
--- the program ends with these lines, or with that refusal
-abbrev pub IsLines : Result (Unit {0}) Refused → List Line → Result (List Line) Refused → Type 0
-IsLines (Ok u) ls r = r ≡ Ok ls
-IsLines (Err e) ls r = r ≡ Err e
 
 -- the row at i is the pivot row of column j
 pub record IsPivotAt {F : Type 0} (value : F → ℚ) (j : ℕ) (ps : List (Option ℕ)) (m : Grid F) (i : ℕ) : Type 0 where

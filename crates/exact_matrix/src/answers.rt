@@ -53,22 +53,11 @@ fn solution<F: ExactField>(
     requires column { n < rows.now.columns }
     ensures { IfOk result (λ z. map F.value z ≡ solution_from n 0 n (state F.value pivots.now rows.now)) }
 {
-    let mut z = Vector::filled(alloc, 0, F::zero())?;
+    let mut z = Vector::new(alloc);
     for j in 0..n {
         z.push(value_of(rows, pivots, j, n))?;
     }
     Ok(z)
-}
-
-// A list with these items.
-fn copied<F: ExactField>(alloc: Global, items: &[F]) -> Result<Vector<F>, Memory>
-    ensures { IfOk result (λ w. w ≡ items.now) }
-{
-    let mut w = Vector::filled(alloc, 0, F::zero())?;
-    for x in items {
-        w.push(*x)?;
-    }
-    Ok(w)
 }
 
 // What the eliminated rows of [M | r | I] say, where M has `n` columns.
@@ -84,7 +73,7 @@ pub(crate) fn answer<F: ExactField>(
 {
     match pivot_place(rows, pivots, n) {
         Some(i) => {
-            let w = copied(alloc, &rows.row(i)[n + 1..])?;
+            let w = Vector::of_slice(alloc, &rows.row(i)[n + 1..])?;
             Ok(Solved::Refuted(w, rows.at(i, n)))
         }
         None => {

@@ -3,7 +3,8 @@
 ghost use Rattle.exact_matrix.specs.Elimination.{is_pivot, may_pivot};
 ghost use Rattle.exact_matrix.specs.EliminationCalculation.{freed_in, each_freed_in, step_in, eliminated_in};
 ghost use Rattle.exact_matrix.specs.Grid.{row_at, with_row};
-ghost use Rattle.exact_matrix.specs.State.{state, IsLine, IsLines, IsPivotAt, IsPivotPlace, IsSameShape};
+ghost use Rattle.exact_matrix.specs.State.{state, IsPivotAt, IsPivotPlace, IsSameShape};
+ghost use Rattle.frac_core.specs.Calculated.{Leaves};
 ghost use Rattle.std.specs.Prelude.{◌≡◌, ◌<◌, ◌≤◌, length, map, unsigned_abs};
 
 use crate::matrix::Matrix;
@@ -57,7 +58,7 @@ fn free_row<F: ExactField>(
     requires row { i < length rows.old.rows }
     requires column { j < rows.old.columns }
     requires other { length p.now ≡ rows.old.columns }
-    ensures line { IsLine result (record { pivot = pivot; entries = map F.value (row_at rows.new i) }) (freed_in (unsigned_abs F.TOP) j (map F.value p.now) (record { pivot = pivot; entries = map F.value (row_at rows.old i) })) }
+    ensures line { Leaves (record { pivot = pivot; entries = map F.value (row_at rows.new i) }) result (freed_in (unsigned_abs F.TOP) j (map F.value p.now) (record { pivot = pivot; entries = map F.value (row_at rows.old i) })) }
     ensures rest { rows.new ≡ with_row rows.old i (row_at rows.new i) }
 {
     if is_pivot(pivot, j) {
@@ -80,7 +81,7 @@ fn free_rows<F: ExactField>(
     requires rows { length pivots.now ≡ length rows.old.rows }
     requires column { j < rows.old.columns }
     requires other { length p.now ≡ rows.old.columns }
-    ensures lines { IsLines result (state F.value pivots.now rows.new) (each_freed_in (unsigned_abs F.TOP) j (map F.value p.now) (state F.value pivots.now rows.old)) }
+    ensures lines { Leaves (state F.value pivots.now rows.new) result (each_freed_in (unsigned_abs F.TOP) j (map F.value p.now) (state F.value pivots.now rows.old)) }
     ensures shape { IsSameShape rows.old rows.new }
 {
     for i in 0..rows.rows() {
@@ -101,7 +102,7 @@ fn clear_column<F: ExactField>(
     requires column { j < rows.old.columns }
     requires room { length p.old ≡ rows.old.columns }
     requires pivot { IsPivotAt F.value j pivots.old rows.old i }
-    ensures lines { IsLines result (state F.value pivots.new rows.new) (step_in (unsigned_abs F.TOP) j (state F.value pivots.old rows.old)) }
+    ensures lines { Leaves (state F.value pivots.new rows.new) result (step_in (unsigned_abs F.TOP) j (state F.value pivots.old rows.old)) }
     ensures shape { IsSameShape rows.old rows.new }
     ensures pivots { length pivots.new ≡ length pivots.old }
 {
@@ -122,7 +123,7 @@ fn step<F: ExactField>(
     requires rows { length pivots.old ≡ length rows.old.rows }
     requires column { j < rows.old.columns }
     requires room { length p.old ≡ rows.old.columns }
-    ensures lines { IsLines result (state F.value pivots.new rows.new) (step_in (unsigned_abs F.TOP) j (state F.value pivots.old rows.old)) }
+    ensures lines { Leaves (state F.value pivots.new rows.new) result (step_in (unsigned_abs F.TOP) j (state F.value pivots.old rows.old)) }
     ensures shape { IsSameShape rows.old rows.new }
     ensures pivots { length pivots.new ≡ length pivots.old }
 {
@@ -142,7 +143,7 @@ pub(crate) fn eliminate<F: ExactField>(
     requires rows { length pivots.old ≡ length rows.old.rows }
     requires columns { n ≤ rows.old.columns }
     requires room { length p.old ≡ rows.old.columns }
-    ensures lines { IsLines result (state F.value pivots.new rows.new) (eliminated_in (unsigned_abs F.TOP) n (state F.value pivots.old rows.old)) }
+    ensures lines { Leaves (state F.value pivots.new rows.new) result (eliminated_in (unsigned_abs F.TOP) n (state F.value pivots.old rows.old)) }
     ensures shape { IsSameShape rows.old rows.new }
     ensures pivots { length pivots.new ≡ length pivots.old }
 {

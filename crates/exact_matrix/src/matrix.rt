@@ -5,8 +5,8 @@ ghost use Rattle.exact_matrix.specs.EliminationCalculation.{divided_in};
 ghost use Rattle.frac_core.specs.Row.{IsRow, row_less};
 ghost use Rattle.std.specs.Prelude.{◌≡◌, ◌<◌, ◌*◌, length, replicate, slice_get, slice_set, map, pos, unsigned_abs, ◌≢◌, Some, IfOk};
 
-use crate::rows;
-use frac_core::{ExactField, Memory, Refused};
+use crate::rows::divide;
+use frac_core::{ExactField, Memory, Refused, take_times};
 use std::alloc::Global;
 use std::marker::Model;
 
@@ -114,7 +114,7 @@ impl<F: ExactField> Matrix<F> {
     {
         let start = i * self.columns;
         let end = start + self.columns;
-        rows::divide(&mut self.entries[start..end], q)
+        divide(&mut self.entries[start..end], q)
     }
 
     // Takes `f` times `other` from the row at `i`, and stops with the first refusal.
@@ -126,6 +126,6 @@ impl<F: ExactField> Matrix<F> {
     {
         let start = i * self.columns;
         let end = start + self.columns;
-        rows::take_times(&mut self.entries[start..end], f, other)
+        take_times(&mut self.entries[start..end], f, other)
     }
 }

@@ -6,7 +6,8 @@ ghost use Rattle.exact_matrix.specs.EliminationMeaning.{IsInverseOrDepends, IsRi
 ghost use Rattle.exact_matrix.specs.EliminationOperations.{elimination_ops};
 ghost use Rattle.exact_matrix.specs.Grid.{IsGrid};
 ghost use Rattle.exact_matrix.specs.State.{state, values, IsSameShape};
-ghost use Rattle.exact_matrix.specs.Systems.{answer_value, IsStop, IsStopOf};
+ghost use Rattle.exact_matrix.specs.Stops.{IsAnswerIn, Stops};
+ghost use Rattle.exact_matrix.specs.Systems.{answer_value};
 ghost use Rattle.std.specs.Option.{option_map};
 ghost use Rattle.std.specs.Prelude.{◌≡◌, ◌≤◌, length, map, replicate, unsigned_abs, IfErr, IfOk, IfSome, OnOk};
 ghost use Rattle.rational.specs.Rational.{zero_ℚ};
@@ -16,7 +17,7 @@ use crate::assembly::{invert_rows, solve_rows};
 use crate::elimination::eliminate;
 use crate::matrix::Matrix;
 use frac_core::{ExactField, Memory, Refused, Vector};
-use std::alloc::Global;
+use std::alloc::{AllocError, Global};
 
 /// Why there is no answer: memory ran out, or an operation's exact result has too large a part.
 #[derive(Clone, Copy)]
@@ -32,6 +33,17 @@ impl From<Memory> for Stop {
     ghost from_gives = { λ e s. s ≡ Memory };
 
     fn from(_error: Memory) -> Stop {
+        Stop::Memory
+    }
+}
+
+impl From<AllocError> for Stop {
+    ghost use Rattle.std.specs.Prelude.{◌≡◌};
+    ghost use Rattle.exact_matrix.specs.declared.systems.Stop.TheVariants.{Memory};
+
+    ghost from_gives = { λ e s. s ≡ Memory };
+
+    fn from(_error: AllocError) -> Stop {
         Stop::Memory
     }
 }
@@ -57,17 +69,6 @@ pub enum Solved<F> {
     Refuted(Vector<F>, F),
 }
 
-// A list of `n` zeros.
-fn zeros<F: ExactField>(alloc: Global, n: usize) -> Result<Vec<F>, Memory>
-    ensures { IfOk result (λ v. length v.items ≡ n) }
-{
-    let mut items = Vec::new(alloc);
-    for _ in 0..n {
-        items.push(F::zero())?;
-    }
-    Ok(items)
-}
-
 // Eliminates the first `n` columns. The answer is the column with its pivot in each row.
 fn eliminated<F: ExactField>(
     alloc: Global,
@@ -78,10 +79,10 @@ fn eliminated<F: ExactField>(
     ensures ok { IfOk result (λ pivots. eliminated_in (unsigned_abs F.TOP) n (lines_of (values F.value rows.old)) ≡ Ok (state F.value pivots rows.new)) }
     ensures count { IfOk result (λ pivots. length pivots ≡ length rows.new.rows) }
     ensures shape { OnOk result (IsSameShape rows.old rows.new) }
-    ensures err { IfErr result (λ stop. IsStop stop (eliminated_in (unsigned_abs F.TOP) n (lines_of (values F.value rows.old)))) }
+    ensures err { IfErr result (λ stop. Stops stop (eliminated_in (unsigned_abs F.TOP) n (lines_of (values F.value rows.old)))) }
 {
     let mut pivots = Vector::filled(alloc, rows.rows(), None)?;
-    let mut p = zeros(alloc, rows.columns())?;
+    let mut p = Vec::from_elem(alloc, F::zero(), rows.columns())?;
     eliminate(rows, &mut pivots, n, &mut p)?;
     Ok(pivots)
 }
@@ -96,7 +97,7 @@ pub fn solve<F: ExactField>(alloc: Global, m: &Matrix<F>, r: &Vector<F>) -> Resu
     requires { length r.now ≡ length m.now.rows }
     ensures answer { IfOk result (λ s. answer_value F.value s ≡ solved m.now.columns (values F.value m.now) (map F.value r.now)) }
     ensures right { IfOk result (λ s. IsRight m.now.columns (values F.value m.now) (map F.value r.now) (answer_value F.value s)) }
-    ensures past { IfErr result (IsStopOf (unsigned_abs F.TOP) (elimination_ops m.now.columns (lines_of (solve_rows (values F.value m.now) (map F.value r.now))))) }
+    ensures operations { IsAnswerIn (unsigned_abs F.TOP) (elimination_ops m.now.columns (lines_of (solve_rows (values F.value m.now) (map F.value r.now)))) result }
 {
     let n = m.columns();
     let mut rows = solve_rows(alloc, m, r)?;
@@ -116,7 +117,7 @@ pub fn invert<F: ExactField>(alloc: Global, m: &Matrix<F>) -> Result<Option<Matr
     ensures answer { IfOk result (λ o. option_map (values F.value) o ≡ inverse m.now.columns (values F.value m.now)) }
     ensures columns { IfOk result (λ o. IfSome o (λ i. i.columns ≡ m.now.columns)) }
     ensures right { IfOk result (λ o. IsInverseOrDepends m.now.columns (values F.value m.now) (option_map (values F.value) o)) }
-    ensures past { IfErr result (IsStopOf (unsigned_abs F.TOP) (elimination_ops m.now.columns (lines_of (invert_rows (values F.value m.now))))) }
+    ensures operations { IsAnswerIn (unsigned_abs F.TOP) (elimination_ops m.now.columns (lines_of (invert_rows (values F.value m.now)))) result }
 {
     let n = m.columns();
     let mut rows = invert_rows(alloc, m)?;

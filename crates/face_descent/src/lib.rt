@@ -7,6 +7,6 @@ mod step;
 mod system;
 
 pub use shrinking::{FaceStop, shrink};
-pub use slopes::{gradient, product, product_added};
+pub use slopes::gradient;
 pub use step::{moved, nearest_zero, smaller};
 pub use system::{kept_form, support};

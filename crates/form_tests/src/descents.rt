@@ -1,6 +1,6 @@
 // Where a small program's form shrinks to.
 
-ghost use Rattle.face_law.specs.Worked.{valley_form};
+ghost use Rattle.face_descent_law.specs.Worked.{valley_form};
 ghost use Rattle.std.specs.Prelude.{◌≡◌, IsTrue};
 
 use crate::texts::{VALLEY, program_of};

@@ -15,7 +15,7 @@ fn some_vector(
     size: usize,
     is_left: bool,
 ) -> Result<Vector<Frac>> {
-    let mut vector = Vector::filled(alloc, 0, Frac::whole(0))?;
+    let mut vector = Vector::new(alloc);
     for _ in 0..size {
         let number = if is_left {
             numbers.left(kind)?

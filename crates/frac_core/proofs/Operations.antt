@@ -4,7 +4,7 @@ use Rattle.std.specs.Prelude.{if◌then◌else◌}
 use Rattle.std.specs.List.{All, Contains}
 use Rattle.std.proofs.lemmas.Bool.Decides.{nat_tests}
 use Rattle.std.proofs.lemmas.List.{append_assoc}
-use Rattle.std.proofs.lemmas.List.Elements.{All-nil, All-append, Contains-append_right}
+use Rattle.std.proofs.lemmas.List.Elements.{All-nil, All-append, Contains-append_left, Contains-append_right}
 use Rattle.rational.specs.Rational.{ℚ, zero_ℚ, ◌+ℚ◌, ◌*ℚ◌, fits, Fits}
 use Rattle.rational.specs.Order.{same_fields}
 use Rattle.frac_core.specs.declared.fractions.Op.{Op}
@@ -13,7 +13,8 @@ use Rattle.frac_core.specs.declared.fractions.Refused.{Refused}
 use Rattle.frac_core.specs.declared.fractions.Tried.{Tried}
 use Rattle.frac_core.specs.declared.fractions.Tried.TheVariants.{Is, Past}
 use Rattle.frac_core.specs.Calculated.{tried_in, and_then, exact_of}
-use Rattle.frac_core.specs.Operations.{operation, IsWithin, IsFirstPast, Tries}
+use Rattle.frac_core.specs.Operations.{operation, IsWithin, IsFirstPast, IsPastOf, Tries}
+use Rattle.frac_core.specs.Parts.{max_part}
 use Rattle.frac_core.specs.Dot.{dot_step, dot_from, dot_of, place_ops, dot_ops_from, dot_ops}
 use Rattle.frac_core.proofs.Values.{tried-value, dot_step-value}
 
@@ -90,3 +91,19 @@ tries_is top operations t q e h = subst (λ u. Tries top operations u) e h
 
 pub tries_past : (top : ℕ) (operations : List Refused) (t : Tried) (r : Refused) → t ≡ Past r → Tries top operations t → IsFirstPast top operations r
 tries_past top operations t r e h = subst (λ u. Tries top operations u) e h
+
+-- ---- an operation of a list that is past
+
+pub first_past : (operations : List Refused) (r : Refused) → IsFirstPast max_part operations r → IsPastOf operations r
+first_past operations r h = (contained max_part operations r h, h.past)
+
+-- an operation that is refused is past
+pub one_past : (op : Op) (p q : ℚ) (r : Refused) → tried_in max_part op p q ≡ Past r → IsPastOf (operation op p q ∷ []) r
+one_past op p q r e =
+    first_past (operation op p q ∷ []) r (tries_past max_part (operation op p q ∷ []) (tried_in max_part op p q) r e (tries_one max_part op p q))
+
+pub past_left : (a b : List Refused) (r : Refused) → IsPastOf a r → IsPastOf (a ++ b) r
+past_left a b r h = (Contains-append_left a b r h.0, h.1)
+
+pub past_right : (a b : List Refused) (r : Refused) → IsPastOf b r → IsPastOf (a ++ b) r
+past_right a b r h = (Contains-append_right a b r h.0, h.1)

@@ -7,3 +7,4 @@ mod products;
 
 pub use basis::Basis;
 pub use columns::unit_columns;
+pub use products::row_products;

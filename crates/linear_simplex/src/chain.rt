@@ -1,11 +1,12 @@
 // The chain of bases.
 
-ghost use Rattle.basis_law.specs.Basis.{IsBasis, IsFinal, IsZeroCost, Tableau};
-ghost use Rattle.basis_law.specs.Exchange.{IsLeaving};
-ghost use Rattle.basis_law.specs.Operations.{basis_ops};
-ghost use Rattle.basis_law.specs.Problem.{width, IsProblem, Problem};
-ghost use Rattle.chain_law.specs.Chain.{IsEntering};
-ghost use Rattle.linear_basis.specs.Kept.{IsStopOf as IsStopIn, kept, problem, tableau};
+ghost use Rattle.linear_basis_law.specs.Basis.{IsBasis, IsFinal, IsZeroCost, Tableau};
+ghost use Rattle.linear_basis_law.specs.Exchange.{IsLeaving};
+ghost use Rattle.linear_basis_law.specs.Operations.{basis_ops};
+ghost use Rattle.linear_basis_law.specs.Problem.{width, IsProblem, Problem};
+ghost use Rattle.linear_simplex_law.specs.Chain.{IsEntering};
+ghost use Rattle.exact_matrix.specs.Stops.{IsStopIn};
+ghost use Rattle.linear_basis.specs.Kept.{kept, problem, tableau};
 ghost use Rattle.linear_simplex.specs.Decided.{IsAnswerOf, IsStopOf, IsTrueOf};
 ghost use Rattle.linear_simplex.specs.Turns.{Gives, IsKept, IsNext, IsReached, IsRefusal, IsStopAt, IsStopNear, LeadsTo};
 ghost use Rattle.rational.specs.Rational.{ℚ};
@@ -14,12 +15,12 @@ ghost use Rattle.std.specs.Prelude.{◌≡◌, ◌<◌, ◌≤◌, ◌^◌, List
 use crate::answers::{Feasible, LinearStop, Next};
 use crate::pricing::entering;
 use crate::products::column;
-use crate::ratio::{coordinates, leaving};
-use crate::verdicts::{is_zero_cost, negated, solution};
+use crate::ratio::leaving;
+use crate::verdicts::{is_zero_cost, solution};
 use crate::whole::{Led, whole_chain};
 use exact_matrix::{Matrix, Stop};
 use frac_core::{Frac, Memory, Refused, Vector};
-use linear_basis::Basis;
+use linear_basis::{Basis, row_products};
 use std::alloc::Global;
 
 // A refused operation, with the columns of the basis in whose calculation it stands.
@@ -43,10 +44,10 @@ fn found(alloc: Global, m: &Matrix<Frac>, basis: &Basis) -> Result<Feasible, Mem
 }
 
 // The answer of a final basis.
-fn refuted(alloc: Global, basis: &Basis) -> Result<Feasible, Memory>
+fn refuted(basis: &Basis) -> Result<Feasible, Memory>
     ensures { (p : Problem) → IsKept p basis.now → IsFinal p (tableau basis.now) → IfOk result (Gives p (tableau basis.now)) }
 {
-    let y = negated(alloc, basis.multipliers())?;
+    let y = basis.multipliers().negated()?;
     let columns = basis.columns().copied()?;
     Ok(Feasible::Farkas(y, columns))
 }
@@ -62,7 +63,7 @@ fn next(alloc: Global, m: &Matrix<Frac>, basis: &Basis) -> Result<Next, LinearSt
     }
     match entering(m, basis.multipliers()) {
         Ok(Some(j)) => Ok(Next::Enters(j)),
-        Ok(None) => Ok(Next::Known(refuted(alloc, basis)?)),
+        Ok(None) => Ok(Next::Known(refuted(basis)?)),
         Err(refused) => Err(refusal(basis.columns(), refused)),
     }
 }
@@ -74,7 +75,7 @@ fn place(alloc: Global, m: &Matrix<Frac>, basis: &Basis, enter: usize) -> Result
     ensures stop { (right : List ℚ) → IsKept (problem m.now right) basis.now → IsEntering (problem m.now right) (tableau basis.now) enter → IfErr result (IsStopIn (basis_ops (problem m.now right) (tableau basis.now))) }
 {
     let column = column(alloc, m, enter)?;
-    let coordinates = coordinates(alloc, basis.inverse(), &column)?;
+    let coordinates = row_products(alloc, basis.inverse(), &column)?;
     let Some(leave) = leaving(basis.point(), basis.inverse(), &coordinates) else {
         unreachable!()
     };

@@ -5,8 +5,8 @@ ghost use Rattle.mps_writer.specs.Lines.{lines_text, behind, has_lines, data_lin
 ghost use Rattle.mps_writer.specs.Canonical.{bound_line, low_lines, both_lines, bound_lines, bounds_lines};
 
 use crate::lines::{Field, push_in_section};
-use crate::parts::{bounds_at, column_name, is_zero};
-use check_steps::{is_negative, same};
+use crate::parts::column_name;
+use check_steps::{is_negative, is_zero, same};
 use frac_core::{Frac, Memory};
 use program_law::Row;
 use program_model::Program;
@@ -109,7 +109,7 @@ pub(crate) fn push_bounds(p: &Program, out: &mut Vec<u8>) -> Result<(), Memory>
 {
     let mut begun = false;
     for j in 0..p.columns() {
-        begun = push_bounds_of(out, begun, column_name(p, j), bounds_at(p, j))?;
+        begun = push_bounds_of(out, begun, column_name(p, j), p.bounds(j))?;
     }
     Ok(())
 }

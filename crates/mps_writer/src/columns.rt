@@ -3,10 +3,11 @@
 ghost use Rattle.std.specs.Prelude.{◌≡◌, ◌<◌, ◌≤◌, ◌++◌, length, OnOk};
 ghost use Rattle.mps_tokens.specs.Written.{ended};
 ghost use Rattle.mps_writer.specs.Lines.{lines_text, each};
-ghost use Rattle.mps_writer.specs.Canonical.{turn_lines, cost_line, entry_lines, is_marked, marked_before, column_lines, columns_lines};
+ghost use Rattle.mps_writer.specs.Canonical.{turn_lines, cost_line, entry_lines, marked_before, column_lines, columns_lines};
 
 use crate::lines::{Field, push_line, push_word};
-use crate::parts::{column_name, is_marked, is_zero, row_name};
+use crate::parts::{column_name, row_name};
+use check_steps::is_zero;
 use frac_core::Memory;
 use program_model::Program;
 
@@ -33,7 +34,7 @@ fn marked_before(p: &Program, j: u32) -> bool
     requires { j ≤ length p.now.columns }
     ensures { result ≡ marked_before p.now j }
 {
-    j > 0 && is_marked(p, j - 1)
+    j > 0 && p.is_marked(j - 1)
 }
 
 /// Puts the line of a column's cost last.
@@ -76,7 +77,7 @@ fn push_column(p: &Program, j: u32, out: &mut Vec<u8>) -> Result<(), Memory>
     requires { j < length p.now.columns }
     ensures { OnOk result (out.new.items ≡ out.old.items ++ lines_text (column_lines p.now j)) }
 {
-    push_turn(marked_before(p, j), is_marked(p, j), out)?;
+    push_turn(marked_before(p, j), p.is_marked(j), out)?;
     push_cost(p, j, out)?;
     for i in 0..p.rows() {
         push_entry(p, j, i, out)?;

@@ -5,7 +5,8 @@ ghost use Rattle.mps_writer.specs.Lines.{lines_text, behind, has_lines};
 ghost use Rattle.mps_writer.specs.Canonical.{pair_lines, row_pair_lines, pairs_lines};
 
 use crate::lines::{Field, push_in_section};
-use crate::parts::{column_name, is_zero};
+use crate::parts::column_name;
+use check_steps::is_zero;
 use frac_core::Memory;
 use program_model::Program;
 

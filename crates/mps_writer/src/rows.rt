@@ -6,7 +6,7 @@ ghost use Rattle.mps_writer.specs.Canonical.{kind_word, row_line, rows_lines};
 ghost use Rattle.mps_tokens.specs.Written.{ended};
 
 use crate::lines::{Field, push_line, push_word};
-use crate::parts::{row_name, sides_at};
+use crate::parts::row_name;
 use check_steps::same;
 use frac_core::Memory;
 use program_law::Row;
@@ -28,7 +28,7 @@ fn push_row(p: &Program, i: u32, out: &mut Vec<u8>) -> Result<(), Memory>
     requires { i < length p.now.rows }
     ensures { OnOk result (out.new.items ≡ out.old.items ++ ended (row_line p.now i)) }
 {
-    let kind = kind_word(sides_at(p, i));
+    let kind = kind_word(p.row(i));
     push_line(out, &[Field::Word(kind), Field::Word(row_name(p, i))])
 }
 

@@ -6,8 +6,8 @@ ghost use Rattle.mps_writer.specs.Lines.{lines_text, behind, has_lines, unless_z
 ghost use Rattle.mps_writer.specs.Canonical.{right_side, width, range_lines, right_sides_lines, ranges_lines};
 
 use crate::lines::{Field, push_in_section};
-use crate::parts::{is_zero, row_name, sides_at};
-use check_steps::same;
+use crate::parts::row_name;
+use check_steps::{is_zero, same};
 use frac_core::{Frac, Memory, Tried};
 use program_law::Row;
 use program_model::Program;
@@ -41,7 +41,7 @@ pub(crate) fn push_right_sides(p: &Program, out: &mut Vec<u8>) -> Result<(), Mem
 {
     let mut begun = push_right_side(out, false, p.objective_name(), -p.constant())?;
     for i in 0..p.rows() {
-        begun = push_right_side(out, begun, row_name(p, i), right_side(sides_at(p, i)))?;
+        begun = push_right_side(out, begun, row_name(p, i), right_side(p.row(i)))?;
     }
     Ok(())
 }
@@ -83,7 +83,7 @@ pub(crate) fn push_ranges(p: &Program, out: &mut Vec<u8>) -> Result<(), Memory>
 {
     let mut begun = false;
     for i in 0..p.rows() {
-        begun = push_range(out, begun, row_name(p, i), width(sides_at(p, i)))?;
+        begun = push_range(out, begun, row_name(p, i), width(p.row(i)))?;
     }
     Ok(())
 }

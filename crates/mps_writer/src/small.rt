@@ -9,7 +9,6 @@ ghost use Rattle.mps_writer.specs.Canonical.{sides_at, bounds_at};
 ghost use Rattle.mps_writer.specs.Back.{IsReadBack};
 ghost use Rattle.mps_writer.specs.Small.{HasSmallSides, HasSmallNumbers};
 
-use crate::parts::{bounds_at, sides_at};
 use frac_core::Frac;
 use program_law::Row;
 use program_model::Program;
@@ -86,7 +85,7 @@ fn show_rows(p: &Program)
     ensures { (i : ℕ) → i < length p.now.rows → HasSmallSides (sides_at p.now i) }
 {
     for i in 0..p.rows() {
-        show_sides(sides_at(p, i));
+        show_sides(p.row(i));
     }
 }
 
@@ -95,7 +94,7 @@ fn show_columns(p: &Program)
     ensures { (j : ℕ) → j < length p.now.columns → HasSmallSides (bounds_at p.now j) }
 {
     for j in 0..p.columns() {
-        show_sides(bounds_at(p, j));
+        show_sides(p.bounds(j));
     }
 }
 

@@ -1,8 +1,8 @@
 // Fractions at the edge of what fits, and each call that allocates.
 
 use frac_core::{
-    Frac, Op, PartsFault, Refused, Tried, Vector, added, divided, dot, is_zero, mul_div,
-    multiplied, subtracted, take_times,
+    Frac, Op, PartsFault, Refused, Tried, Vector, add_product, added, divided, dot, dot_fractions,
+    is_zero, mul_div, multiplied, subtracted, take_times,
 };
 use std::test::Fail;
 
@@ -68,10 +68,26 @@ fn vectors(rt: HostRuntime) -> Result<(), Fail> {
     b.set(2, Frac::whole(5));
     assert_eq!(rt; b.len(), 3);
     assert!(rt; matches!(dot(&a, &b), Ok(f) if f == Frac::of_parts(92, 9)?));
-    assert!(rt; take_times(&mut b, Frac::whole(3), &a).is_ok());
-    assert!(rt; b.at(0) == Frac::of_parts(-2, 3)? && b.at(2) == Frac::whole(-1));
     let large = Vector::filled(rt.alloc(), 1, Frac::whole(i128::MAX))?;
     assert!(rt; matches!(dot(&large, &large), Err(Refused { op: Op::Mul, .. })));
+    Ok(())
+}
+
+#[test]
+fn slices(rt: HostRuntime) -> Result<(), Fail> {
+    let third = Frac::of_parts(1, 3)?;
+    let mut row = [third.clone()?, Frac::whole(5)];
+    let mut other = Vector::new(rt.alloc());
+    other.push(third)?;
+    other.push(Frac::whole(2))?;
+    assert!(rt;
+        matches!(dot_fractions(&row, other.as_slice()), Ok(f) if f == Frac::of_parts(91, 9)?)
+    );
+    assert!(rt; matches!(add_product(third, third, Frac::whole(2)), Ok(f) if f == Frac::whole(1)));
+    assert!(rt; take_times(&mut row, Frac::whole(3), other.as_slice()).is_ok());
+    let turned = Vector::of_slice(rt.alloc(), &row)?.negated()?;
+    assert!(rt; turned.at(0) == Frac::of_parts(2, 3)? && turned.at(1) == Frac::whole(1));
+    assert!(rt; matches!((third + third).or_refusal(), Ok(f) if f == Frac::of_parts(2, 3)?));
     Ok(())
 }
 

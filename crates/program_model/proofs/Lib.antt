@@ -8,3 +8,4 @@ pub mod Found
 pub mod RegionLemmas
 pub mod PointLemmas
 pub mod ValueLemmas
+pub mod DescentLemmas

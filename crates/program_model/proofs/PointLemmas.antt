@@ -11,15 +11,15 @@ use Rattle.program_law.specs.Columns.{IsPoint, value}
 use Rattle.program_law.specs.Verdict.{columns_of}
 use Rattle.program_law.specs.Value.{value_of}
 use Rattle.program_law.proofs.Bridge.{feasible_back, value_is}
-use Rattle.check_law.specs.declared.Event.{Event}
-use Rattle.check_law.specs.declared.Event.TheVariants.{Past, Failed}
-use Rattle.check_law.specs.Chain.{◌>>=◌, test, NoTestFails}
-use Rattle.check_law.specs.Dot.{dot_of}
-use Rattle.check_law.specs.Point.{is_within, keeps_mark, row_within, rows_within, column_within, columns_within, point_test}
-use Rattle.check_law.specs.Value as checked
-use Rattle.check_law.proofs.Settled.{Settles, shown, passes}
-use Rattle.check_law.proofs.Points.{point_settles}
-use Rattle.check_law.proofs.Products.{dot_is, value_settles}
+use Rattle.cert_check_law.specs.declared.Event.{Event}
+use Rattle.cert_check_law.specs.declared.Event.TheVariants.{Past, Failed}
+use Rattle.cert_check_law.specs.Chain.{◌>>=◌, test, NoTestFails}
+use Rattle.cert_check_law.specs.Dot.{dot_of}
+use Rattle.cert_check_law.specs.Point.{is_within, keeps_mark, row_within, rows_within, column_within, columns_within, point_test}
+use Rattle.cert_check_law.specs.Value as checked
+use Rattle.cert_check_law.proofs.Settled.{Settles, shown, passes}
+use Rattle.cert_check_law.proofs.Points.{point_settles}
+use Rattle.cert_check_law.proofs.Products.{dot_is, value_settles}
 use Rattle.program_model.specs.Tested.{IsPointEvent}
 
 -- ---- events

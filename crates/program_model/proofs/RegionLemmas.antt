@@ -8,7 +8,7 @@ use Rattle.program_law.proofs.Numbers.{lt_tested, lt_test}
 use Rattle.program_law.specs.Tests.{is_le}
 use Rattle.program_law.specs.declared.Row.{Row}
 use Rattle.program_law.specs.Region.{Region, smaller, larger, cut_high, cut_low, IsCrossed, IsCrossedAt}
-use Rattle.check_law.specs.Tree.{is_above}
+use Rattle.cert_check_law.specs.Tree.{is_above}
 use Rattle.program_model.specs.Regions.{is_crossed, first_crossed}
 use Rattle.program_model.proofs.NamedLemmas.{position-cons}
 

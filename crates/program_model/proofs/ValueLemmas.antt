@@ -3,10 +3,10 @@ use Rattle.std.specs.Prelude.{◌≡◌, List, [], ◌∷◌, Result, Ok, Err, p
 use Rattle.std.proofs.Common.{refl, ap, sym, ◌∙◌}
 use Rattle.rational.specs.Rational.{ℚ, whole, ratio}
 use Rattle.rational.specs.Divisors.{gcd_of}
-use Rattle.check_law.specs.declared.Event.{Event}
-use Rattle.check_law.specs.Chain.{◌>>=◌}
-use Rattle.check_law.specs.Dot.{with_product, dot_from}
-use Rattle.check_law.specs.Value.{row_product, row_products}
+use Rattle.cert_check_law.specs.declared.Event.{Event}
+use Rattle.cert_check_law.specs.Chain.{◌>>=◌}
+use Rattle.cert_check_law.specs.Dot.{with_product, dot_from}
+use Rattle.cert_check_law.specs.Value.{row_product, row_products}
 use Rattle.program_model.specs.Totals.{total_with}
 
 -- the products of these rows, and then the sum so far with them

@@ -4,3 +4,4 @@ pub mod Kept
 pub mod Regions
 pub mod Tested
 pub mod Totals
+pub mod Descents

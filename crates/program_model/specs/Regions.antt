@@ -2,7 +2,7 @@
 use Rattle.std.specs.Prelude.{ℕ, Option, Bool, position}
 use Rattle.program_law.specs.declared.Row.{Row}
 use Rattle.program_law.specs.Region.{Region}
-use Rattle.check_law.specs.Tree.{is_above}
+use Rattle.cert_check_law.specs.Tree.{is_above}
 
 abbrev pub is_crossed : Row → Bool
 is_crossed b = is_above b.low b.high

@@ -9,8 +9,8 @@ use Rattle.program_law.specs.Region.{Region}
 use Rattle.program_law.specs.Point.{Point, IsFeasibleIn}
 use Rattle.program_law.specs.Value.{value_of}
 use Rattle.program_law.specs.Verdict.{columns_of}
-use Rattle.check_law.specs.declared.Event.{Event}
-use Rattle.check_law.specs.declared.Event.TheVariants.{Past, Failed}
+use Rattle.cert_check_law.specs.declared.Event.{Event}
+use Rattle.cert_check_law.specs.declared.Event.TheVariants.{Past, Failed}
 use Rattle.program_model.specs.declared.points.PointTest.{PointTest}
 use Rattle.program_model.specs.declared.points.PointTest.TheVariants.{Inside, Row, Bound, Mark}
 

@@ -2,16 +2,15 @@
 
 ghost use Rattle.std.specs.Prelude.{◌≡◌, Ok, Err, length, pos};
 ghost use Rattle.program_law.specs.Program.{sides, marks};
-ghost use Rattle.check_law.specs.Chain.{answered, NoTestFails};
-ghost use Rattle.check_law.specs.Point.{rows_within, columns_within, point_test};
-ghost use Rattle.check_law.specs.Value.{form_of, half_form, value_of};
+ghost use Rattle.cert_check_law.specs.Chain.{answered, NoTestFails};
+ghost use Rattle.cert_check_law.specs.Point.{rows_within, columns_within, point_test};
+ghost use Rattle.cert_check_law.specs.Value.{form_of, half_form, value_of};
 ghost use Rattle.program_model.specs.Totals.{total_with};
 ghost use Rattle.program_model.specs.Tested.{event_of, IsPointEvent, IsInsideIfTold, IsValueIfTold};
 
 use crate::program::Program;
-use crate::reading::{column_count, entries_of, is_marked, pairs_of, row_count, sides_of};
 use crate::regions::Region;
-use check_law::Event;
+use cert_check_law::Event;
 use check_steps::{
     column_tested, dot_with, entry, product_added, quotient, row_product, row_tested, sum,
 };
@@ -32,8 +31,8 @@ fn rows_tested(p: &Program, x: &Vector<Frac>) -> Result<(), Event>
     requires { length x.now ≡ length p.now.columns }
     ensures { result ≡ rows_within 1 (sides p.now) p.now.entries x.now }
 {
-    for i in 0..row_count(p) {
-        row_tested(i + 1, sides_of(p, i), entries_of(p, i), x)?;
+    for i in 0..p.rows() {
+        row_tested(i + 1, p.row(i), p.entries_of(i), x)?;
     }
     Ok(())
 }
@@ -45,19 +44,24 @@ fn columns_tested(p: &Program, region: &Region, x: &Vector<Frac>) -> Result<(), 
     ensures { result ≡ columns_within 1 region.now (marks p.now) x.now }
 {
     let bounds = region.bounds();
-    for j in 0..column_count(p) {
+    for j in 0..p.columns() {
         column_tested(
             j + 1,
             bounds[j as usize],
-            is_marked(p, j),
+            p.is_marked(j),
             entry(x, j as usize),
         )?;
     }
     Ok(())
 }
 
-#[tactic(auto, unfolding(check_law::specs::Point::point_test))]
-fn point_tested(p: &Program, region: &Region, x: &Vector<Frac>) -> Result<(), Event>
+/// The tests of a point in a region: each row's sum within its sides, then each column within its bounds and whole where it is
+/// marked.
+///
+/// # Errors
+/// The first operation that is past or test that fails.
+#[tactic(auto, unfolding(cert_check_law::specs::Point::point_test))]
+pub fn point_tested(p: &Program, region: &Region, x: &Vector<Frac>) -> Result<(), Event>
     requires region { length region.now ≡ length p.now.columns }
     requires point { length x.now ≡ length p.now.columns }
     ensures { result ≡ point_test p.now region.now x.now }
@@ -105,24 +109,25 @@ fn total_added(total: Result<Frac, Event>, a: Frac, b: Frac) -> Result<Frac, Eve
     product_added(total?, a, b)
 }
 
-// The form of a point. The products of all rows come before the sum, so an event of the sum waits for theirs.
-#[tactic(auto, unfolding(check_law::specs::Value::form_of))]
-fn form(p: &Program, x: &Vector<Frac>) -> Result<Frac, Event>
+/// The form of a vector, or the first operation whose result does not fit. The products of all rows come before the sum, so an
+/// event of the sum waits for theirs.
+#[tactic(auto, unfolding(cert_check_law::specs::Value::form_of))]
+pub fn form(p: &Program, x: &Vector<Frac>) -> Result<Frac, Event>
     requires { length x.now ≡ length p.now.columns }
     ensures { result ≡ form_of p.now.pairs x.now }
 {
     let mut total = Ok(Frac::whole(0));
-    for j in 0..column_count(p) {
+    for j in 0..p.columns() {
         let own = entry(x, j as usize);
-        let product = row_product(pairs_of(p, j), own, x)?;
+        let product = row_product(p.pairs_of(j), own, x)?;
         total = total_added(total, own, product);
     }
     total
 }
 
-// Half the form of a point.
-#[tactic(auto, unfolding(check_law::specs::Value::half_form))]
-fn half_form(p: &Program, x: &Vector<Frac>) -> Result<Frac, Event>
+/// Half the form of a vector, or the first operation whose result does not fit.
+#[tactic(auto, unfolding(cert_check_law::specs::Value::half_form))]
+pub fn half_form(p: &Program, x: &Vector<Frac>) -> Result<Frac, Event>
     requires { length x.now ≡ length p.now.columns }
     ensures { result ≡ half_form p.now.pairs x.now }
 {
@@ -130,7 +135,7 @@ fn half_form(p: &Program, x: &Vector<Frac>) -> Result<Frac, Event>
     quotient(form, Frac::whole(2))
 }
 
-#[tactic(auto, unfolding(check_law::specs::Value::value_of))]
+#[tactic(auto, unfolding(cert_check_law::specs::Value::value_of))]
 fn calculated(p: &Program, x: &Vector<Frac>) -> Result<Frac, Event>
     requires { length x.now ≡ length p.now.columns }
     ensures { result ≡ value_of p.now x.now }

@@ -1,10 +1,12 @@
 // A program, its changes and its readers.
 
 ghost use Rattle.std.specs.Prelude.{◌≡◌, ◌≢◌, ◌<◌, ◌≤◌, ◌^◌, length, slice_get, Some, IfOk, IfSome, OnOk, OnErr};
-ghost use Rattle.program_law.specs.Program.{IsProgram, IsRow, row_names, column_names, sides, marker};
+ghost use Rattle.program_law.specs.Program.{IsProgram, IsRow, row_names, column_names, sides, bounds, marks, marker};
 ghost use Rattle.program_law.specs.Changes.{empty_program, with_row, with_column, with_entry, with_cost, with_constant, with_pair, with_sides, with_bounds};
 ghost use Rattle.program_law.specs.Places.{place_of};
 ghost use Rattle.program_law.specs.Vectors.{at, row_at};
+ghost use Rattle.certificate_law.specs.Tree.{is_marked};
+ghost use Rattle.cert_check_law.specs.Tree.{bounds_at};
 ghost use Rattle.program_model.specs.Answers.{IsPlaced};
 ghost use Rattle.program_model.specs.Named.{names_of, things_of};
 
@@ -169,6 +171,8 @@ impl Program {
     /// How many rows there are.
     pub fn rows(&self) -> u32
         ensures count { result ≡ length self.now.rows }
+        ensures sides { length (sides self.now) ≡ result }
+        ensures entries { length self.now.entries ≡ result }
         ensures few { result ≤ 128 }
         ensures program { IsProgram self.now }
     {
@@ -178,6 +182,10 @@ impl Program {
     /// How many columns there are.
     pub fn columns(&self) -> u32
         ensures count { result ≡ length self.now.columns }
+        ensures bounds { length (bounds self.now) ≡ result }
+        ensures marks { length (marks self.now) ≡ result }
+        ensures costs { length self.now.costs ≡ result }
+        ensures pairs { length self.now.pairs ≡ result }
         ensures few { result ≤ 128 }
         ensures program { IsProgram self.now }
     {
@@ -188,6 +196,7 @@ impl Program {
     pub fn row(&self, i: u32) -> Row
         requires { i < length self.now.rows }
         ensures row { slice_get (sides self.now) i ≡ Some result }
+        ensures at { result ≡ bounds_at (sides self.now) i }
         ensures good { IsRow result }
     {
         self.rows.thing(i as usize)
@@ -199,6 +208,26 @@ impl Program {
         ensures { slice_get (things_of self.now.columns) j ≡ Some result }
     {
         self.columns.thing(j as usize)
+    }
+
+    /// A column's bounds.
+    pub fn bounds(&self, j: u32) -> Row
+        requires { j < length self.now.columns }
+        ensures { result ≡ bounds_at (bounds self.now) j }
+    {
+        let column = self.column(j);
+        Row {
+            low: column.low,
+            high: column.high,
+        }
+    }
+
+    /// Whether a column is to be whole.
+    pub fn is_marked(&self, j: u32) -> bool
+        requires { j < length self.now.columns }
+        ensures { result ≡ is_marked (marks self.now) j }
+    {
+        self.column(j).whole
     }
 
     /// The entry of A at a row and a column.

@@ -6,8 +6,8 @@ use Rattle.std.proofs.lemmas.Bool.{le-ltb}
 use Rattle.program_law.specs.Program.{Program}
 use Rattle.certificate_law.specs.declared.Certificate.{Certificate}
 use Rattle.certificate_law.specs.declared.Certificate.TheVariants.{Optimal, Infeasible, Unbounded, NotConvex}
-use Rattle.check_law.specs.Check.{checked, answer}
-use Rattle.check_law.specs.declared.Checked.TheVariants.{Accepted, Rejected, Past}
+use Rattle.cert_check_law.specs.Check.{checked, answer}
+use Rattle.cert_check_law.specs.declared.Checked.TheVariants.{Accepted, Rejected, Past}
 use Rattle.mps_tokens.specs.Lines.{is_line_feed, raw_lines, without_return}
 use Rattle.mps_grammar.specs.Lines.{is_passed}
 use Rattle.mps_grammar.specs.Words.{word_of}
@@ -22,7 +22,7 @@ use Rattle.mps_reader.proofs.AppendedReading.{read_more, rest_more, drop_more}
 use Rattle.mps_reader.proofs.WholePrograms.{read_program}
 use Rattle.branching.specs.declared.stops.DecideStop.{DecideStop}
 use Rattle.branching.specs.declared.stops.DecideStop.TheVariants as halted
-use Rattle.check_law.specs.declared.Checked.{Checked}
+use Rattle.cert_check_law.specs.declared.Checked.{Checked}
 use Rattle.qp_engine.specs.Solving.{IsReadable, IsCheckedDue, IsStopDue, IsSolveDue}
 use Rattle.qp_engine.specs.Said.{Said, said}
 use Rattle.qp_engine.specs.Due.{longest, file_due, answer_due, certificate_due, check_due, IsDue, IsDueBy, IsReadDue, IsTaskDue}

@@ -26,7 +26,7 @@ module _ (p : Program) (bases boxes : ℕ) (is : IsProgram p) (room : HasRoom p 
   nothing_stops : (stop : DecideStop) (s : Said) → IsStopOf p bases boxes stop → IsStopDue p bases stop s → ⊥
   nothing_stops Memory s h due = due
   nothing_stops (Bases path site) s h due =
-      clash bases _ (spent_site_small p bases path h.place is h.spent) (many_bases path h.spent.reached.comes h.spent.reached.uncrossed)
+      clash bases _ (spent_site_small p bases path h.place is (record { reached = h.spent.reached; spent = h.spent.first.spent })) (many_bases path h.spent.reached.comes h.spent.reached.uncrossed)
   nothing_stops (Boxes n) s h due = never_used_up p bases boxes is h.1 many_boxes
   nothing_stops (Past path site r) s (inl h) due =
       let first = operations_are p is (Err (stops.Past r)) h.past in

@@ -1,9 +1,9 @@
 pub mod Ends
 pub mod Judged
-pub mod Pathed
 pub mod Solved
 pub mod Shown
 pub mod Enough
+pub mod OneText
 pub mod Written
 pub mod Accepted
 pub mod SmallNumbers

@@ -10,8 +10,8 @@ use Rattle.certificate_law.specs.declared.Certificate.{Certificate}
 use Rattle.certificate_law.specs.declared.Certificate.TheVariants.{Optimal, Infeasible, Unbounded, NotConvex}
 use Rattle.certificate_law.specs.Good.{IsGood, verdict_of}
 use Rattle.certificate_law.proofs.Verdicts.{good_is_true}
-use Rattle.check_law.specs.Check.{checked, answer}
-use Rattle.check_law.specs.declared.Checked.TheVariants.{Accepted, Past}
+use Rattle.cert_check_law.specs.Check.{checked, answer}
+use Rattle.cert_check_law.specs.declared.Checked.TheVariants.{Accepted, Past}
 use Rattle.branching.specs.Decided.{IsFound}
 use Rattle.branching.specs.Stops.{IsStopOf}
 use Rattle.branching.specs.declared.stops.DecideStop.{DecideStop}

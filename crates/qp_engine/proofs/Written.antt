@@ -9,7 +9,8 @@ use Rattle.branching_law.specs.declared.Turn.{Turn}
 use Rattle.std.specs.Fmt.{signed_decimal}
 use Rattle.program_model.specs.Named.{names_of}
 use Rattle.cert_text.specs.Text.{name_at}
-use Rattle.qp_engine.specs.Withheld.{at_line, at_lines, basic_line, basic_lines, cut_word, path_lines, turn_line, IsPathIn}
+use Rattle.branching.specs.Stops.{IsPathIn}
+use Rattle.qp_engine.specs.Withheld.{at_line, at_lines, basic_line, basic_lines, cut_word, path_lines, turn_line}
 
 -- what is done, a line, and the rest
 appended : (done line rest new whole : List ℕ) → done ++ (line ++ rest) ≡ whole → new ≡ done ++ line → new ++ rest ≡ whole

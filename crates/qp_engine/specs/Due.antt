@@ -2,9 +2,9 @@
 use Rattle.std.specs.Prelude.{◌≡◌, ℕ, Bool, true, false, ◌+◌, List, ◌++◌, length, drop, Option, Some, None, Result, Ok, Err, nat_lt, codes}
 use Rattle.std.specs.Fmt.{decimal}
 use Rattle.program_law.specs.Program.{Program}
-use Rattle.check_law.specs.Check.{checked, answer}
-use Rattle.check_law.specs.declared.Checked.{Checked}
-use Rattle.check_law.specs.declared.Checked.TheVariants.{Accepted, Rejected, Past}
+use Rattle.cert_check_law.specs.Check.{checked, answer}
+use Rattle.cert_check_law.specs.declared.Checked.{Checked}
+use Rattle.cert_check_law.specs.declared.Checked.TheVariants.{Accepted, Rejected, Past}
 use Rattle.mps_tokens.specs.Lines.{raw_lines}
 use Rattle.mps_grammar.specs.Words.{word_of}
 use Rattle.mps_grammar.specs.Verdict.{Fault}

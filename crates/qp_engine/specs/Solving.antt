@@ -3,9 +3,9 @@ use Rattle.std.specs.Prelude.{◌≡◌, ◌⊎◌, ℕ, ◌++◌, Option, Some,
 use Rattle.frac_core.specs.declared.fractions.Refused.{Refused}
 use Rattle.program_law.specs.Program.{Program}
 use Rattle.certificate_law.specs.declared.Certificate.{Certificate}
-use Rattle.check_law.specs.Check.{checked, answer}
-use Rattle.check_law.specs.declared.Checked.{Checked}
-use Rattle.check_law.specs.declared.Checked.TheVariants.{Accepted, Rejected, Past}
+use Rattle.cert_check_law.specs.Check.{checked, answer}
+use Rattle.cert_check_law.specs.declared.Checked.{Checked}
+use Rattle.cert_check_law.specs.declared.Checked.TheVariants.{Accepted, Rejected, Past}
 use Rattle.cert_text.specs.Text.{certificate_text}
 use Rattle.cert_text.specs.Writable.{IsWritable, NumbersFit}
 use Rattle.branching.specs.Decided.{IsFound}

@@ -2,8 +2,8 @@
 
 ghost use Rattle.cert_text.specs.Text.{certificate_text};
 ghost use Rattle.certificate_law.specs.declared.Certificate.{Certificate};
-ghost use Rattle.check_law.specs.Check.{answer, checked};
-ghost use Rattle.check_law.specs.declared.Checked.TheVariants.{Accepted};
+ghost use Rattle.cert_check_law.specs.Check.{answer, checked};
+ghost use Rattle.cert_check_law.specs.declared.Checked.TheVariants.{Accepted};
 ghost use Rattle.mps_grammar.specs.Reading.{Spot, read_of, rest_of};
 ghost use Rattle.mps_reader.specs.Appended.{EndsInLineFeed};
 ghost use Rattle.program_law.specs.Program.{IsProgram, Program};

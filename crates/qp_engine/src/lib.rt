@@ -4,6 +4,7 @@
 mod answers;
 mod judging;
 mod laws;
+mod only_texts;
 mod paths;
 mod running;
 mod sampling;
@@ -16,5 +17,6 @@ pub use laws::{
     large_budgets_decide_a_program, large_budgets_decide_a_sample, solutions_are_accepted,
     written_certificates_are_accepted,
 };
+pub use only_texts::one_text_is_due;
 pub use running::run;
 pub use status::Status;

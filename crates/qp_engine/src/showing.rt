@@ -4,7 +4,7 @@ ghost use Rattle.std.specs.Prelude.{◌≡◌, ◌≢◌, ◌≤◌, ◌^◌, ne
 ghost use Rattle.std.specs.List.{AllByRecursion};
 ghost use Rattle.rational.specs.Rational.{Fits};
 ghost use Rattle.frac_core.specs.Parts.{max_part};
-ghost use Rattle.check_law.specs.Fits.{FitsNode};
+ghost use Rattle.cert_check_law.specs.Fits.{FitsNode};
 ghost use Rattle.cert_text.specs.Writable.{AllFit, SquareFits, NodeFits, NumbersFit, IsWritable};
 
 use certificate_law::{Certificate, Node, Tree};

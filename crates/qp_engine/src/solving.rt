@@ -3,8 +3,8 @@
 ghost use Rattle.std.specs.Prelude.{◌≡◌, ◌≢◌, ◌≤◌, IfOk};
 ghost use Rattle.certificate_law.specs.Good.{IsGood};
 ghost use Rattle.cert_text.specs.Writable.{IsWritable};
-ghost use Rattle.check_law.specs.Check.{answer, checked};
-ghost use Rattle.branching.specs.Stops.{IsStopOf};
+ghost use Rattle.cert_check_law.specs.Check.{answer, checked};
+ghost use Rattle.branching.specs.Stops.{HasPathIn};
 ghost use Rattle.qp_engine.specs.Solving.{told_by, IsFoundDue, IsSolveDue, IsStopDue};
 ghost use Rattle.qp_engine.specs.Runs.{HasSolved, IsVerdict};
 
@@ -15,9 +15,9 @@ use crate::status::Status;
 use crate::withheld::{bases_text, boxes_text, check_text, past_text};
 use branching::{DecideStop, Limits, decide};
 use cert_check::check;
+use cert_check_law::{Checked, good_fails_no_test};
 use cert_text::write_certificate;
 use certificate_law::Certificate;
-use check_law::{Checked, good_fails_no_test};
 use frac_core::{Memory, Refused};
 use program_model::Program;
 use qp_words::Order;
@@ -83,7 +83,7 @@ pub(crate) fn stopped(
     limits: Limits,
     stop: DecideStop,
 ) -> Result<Answer, Memory>
-    requires { IsStopOf program.now limits.bases limits.boxes stop }
+    requires { HasPathIn program.now stop }
     ensures due { IfOk result (IsStopDue program.now limits.bases stop) }
     ensures withheld { IfOk result (λ a. a.status ≡ Status.Withheld) }
 {

@@ -1,6 +1,6 @@
 //! Reading to the end.
 
-ghost use Rattle.std.specs.Prelude.{◌≡◌, ◌+◌, ◌-◌, ◌<◌, ◌≤◌, ◌^◌, length, vec_len, IfOk, OnOk, OnErr, IfSome, IsErrOf, IsTrue, ◌↔◌, Some};
+ghost use Rattle.std.specs.Prelude.{◌≡◌, ◌+◌, ◌-◌, ◌<◌, ◌≤◌, ◌^◌, drop, length, vec_len, IfOk, OnOk, OnErr, IfSome, IsErrOf, IsTrue, ◌↔◌, Some};
 ghost use Rattle.std.specs.Io.KnownBytes.{Consumes, IsAtEnd};
 ghost use Rattle.qp_io.specs.Causes.{Rose};
 ghost use Rattle.qp_streams.specs.Streams.{Moves};
@@ -62,13 +62,14 @@ fn read_piece<S: Source>(
     }
 }
 
-/// The whole input, which has at most `limit` bytes. Of a longer input it keeps no byte but the first past the limit.
+/// The whole input, which has at most `limit` bytes. Of a longer input it takes one byte past the limit, and no more.
 pub fn read_all<S: Source>(alloc: Global, source: &mut S, limit: usize) -> Result<Vec<u8>, ReadStop>
     requires { limit < 2 ^ 63 }
     ensures whole { IfOk result (λ text. IfSome (S.left source.old) (λ bytes. text.items ≡ bytes)) }
     ensures end { OnOk result (IsAtEnd (S.left source.new)) }
     ensures within { IfOk result (λ text. vec_len text ≤ limit) }
     ensures long { IsErrOf result ReadStop.Long → IfSome (S.left source.old) (λ bytes. limit < length bytes) }
+    ensures taken { IsErrOf result ReadStop.Long → IfSome (S.left source.old) (λ bytes. S.left source.new ≡ Some (drop (limit + 1) bytes)) }
     ensures fault { IsErrOf result ReadStop.Fault → Rose (S.faults source.old) (S.faults source.new) }
     ensures kept { OnOk result (S.faults source.new ≡ S.faults source.old) }
     ensures kept_long { IsErrOf result ReadStop.Long → S.faults source.new ≡ S.faults source.old }

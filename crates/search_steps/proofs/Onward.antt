@@ -11,7 +11,7 @@ use Rattle.program_law.specs.Vectors.{at}
 use Rattle.program_model.specs.Regions.{first_crossed}
 use Rattle.certificate_law.specs.declared.Node.{Node}
 use Rattle.certificate_law.specs.declared.Node.TheVariants.{Branch, Bound, Farkas, Cross}
-use Rattle.walk_law.specs.Answer.{IsFound, IsEmpty, IsBest}
+use Rattle.quad_solve_law.specs.Answer.{IsFound, IsEmpty, IsBest}
 use Rattle.branching_law.specs.Paths.{region_of, IsFirst}
 use Rattle.branching_law.specs.Nodes.{Search, ForBest, ForPoint, IsFractionalAt, IsBranch}
 use Rattle.branching_law.specs.Search.{IsSpentTree, branches, points_of}

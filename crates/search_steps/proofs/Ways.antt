@@ -8,7 +8,7 @@ use Rattle.rational.specs.Rational.{whole}
 use Rattle.program_law.specs.declared.Row.{Row}
 use Rattle.program_law.specs.Region.{Region, cut_high, cut_low}
 use Rattle.program_law.specs.Program.{Program, bounds}
-use Rattle.check_law.specs.Tree.{bounds_at}
+use Rattle.cert_check_law.specs.Tree.{bounds_at}
 use Rattle.branching_law.specs.declared.Cut.{Cut}
 use Rattle.branching_law.specs.declared.Cut.TheVariants.{Below, Above}
 use Rattle.branching_law.specs.declared.Turn.{Turn}

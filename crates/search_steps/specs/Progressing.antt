@@ -5,9 +5,9 @@ use Rattle.program_law.specs.Program.{Program}
 use Rattle.certificate_law.specs.declared.Node.{Node}
 use Rattle.certificate_law.specs.declared.Node.TheVariants.{Branch}
 use Rattle.branching_law.specs.declared.Turn.{Turn}
-use Rattle.branching_law.specs.Nodes.{Search, ForBest, ForPoint}
+use Rattle.branching_law.specs.Nodes.{Search, ForBest}
 use Rattle.branching_law.specs.Rounding.{IsRounding}
-use Rattle.branching_law.specs.Search.{IsEarned, branches}
+use Rattle.branching_law.specs.Search.{branches}
 use Rattle.branching_law.specs.Searching.{IsSearching}
 use Rattle.branching_law.specs.Sizes.{HasNumber, IsBranchNumber}
 use Rattle.search_steps.specs.Incumbents.{point_of, HasValue}
@@ -45,20 +45,6 @@ pub record IsBranched (old : Progress) (j : ℕ) (k : ℤ) (new : Progress) : Ty
 -- how much is left at most: each branch that may come, and each path that waits
 abbrev pub work_left : ℕ → Progress → ℕ
 work_left boxes progress = 2 * (boxes - progress.branches) + length (waiting_of progress.trail)
-
--- a path of a search for the best
-pub record IsPathForBest (p : Program) (bases : ℕ) (path : List Turn) : Type 0 where
-  pub turns : List Turn
-  pub nodes : List Node
-  pub waiting : List (List Turn)
-  pub earned : IsEarned ForBest p bases turns nodes (path ∷ waiting)
-
--- a path of a search for a point
-pub record IsPathForPoint (p : Program) (bases : ℕ) (path : List Turn) : Type 0 where
-  pub turns : List Turn
-  pub nodes : List Node
-  pub waiting : List (List Turn)
-  pub earned : IsEarned ForPoint p bases turns nodes (path ∷ waiting)
 
 -- a search for the best that has taken a node
 pub record HasBegun (p : Program) (bases boxes : ℕ) (more : Bool) (progress : Progress) : Type 0 where

@@ -2,7 +2,7 @@
 use Rattle.std.specs.Prelude.{◌≡◌, ℕ, ◌<◌, ◌≤◌, ℤ, pos, ◌+ℤ◌, List, [], ◌∷◌, ◌++◌, reverse, length, Bool, true, false, unsigned_abs}
 use Rattle.frac_core.specs.Parts.{max_part}
 use Rattle.program_law.specs.Program.{Program}
-use Rattle.check_law.specs.Tree.{bounds_at}
+use Rattle.cert_check_law.specs.Tree.{bounds_at}
 use Rattle.branching_law.specs.declared.Cut.{Cut}
 use Rattle.branching_law.specs.declared.Cut.TheVariants.{Below, Above}
 use Rattle.branching_law.specs.declared.Turn.{Turn}

@@ -3,14 +3,13 @@
 ghost use Rattle.std.specs.Prelude.{◌≡◌, ◌+◌, ◌<◌, length, IfOk, OnOk, Ok, true, false};
 ghost use Rattle.std.specs.List.{AllByRecursion};
 ghost use Rattle.program_law.specs.Region.{IsCrossedRegion};
-ghost use Rattle.check_law.specs.Tree.{bounds_at};
+ghost use Rattle.cert_check_law.specs.Tree.{bounds_at};
 ghost use Rattle.branching_law.specs.declared.Turn.{Turn};
 ghost use Rattle.branching_law.specs.Paths.{region_of};
 ghost use Rattle.branching_law.specs.Rounding.{IsMarkedAt, IsFractional, IsRounding, IsRoundingTo};
 ghost use Rattle.branching_law.specs.Sizes.{IsBranchNumber};
 ghost use Rattle.search_steps.specs.Progressing.{IsRoot};
 
-use crate::marks::is_marked_at;
 use crate::trails::Trail;
 use crate::turns::{no_turns, turn_above, turn_below, whole_after, whole_before};
 use branching_law::Turn;
@@ -108,7 +107,7 @@ pub fn rounded(alloc: Global, p: &Program) -> Result<Trail, Memory>
     let mut turns = no_turns(alloc)?;
     let mut region = Region::of(alloc, p)?;
     for j in 0..p.columns() {
-        if is_marked_at(p, j) && !column_rounded(p, j, &mut turns, &mut region)? {
+        if p.is_marked(j) && !column_rounded(p, j, &mut turns, &mut region)? {
             return Ok(Trail::at_root(alloc, turns, region));
         }
     }

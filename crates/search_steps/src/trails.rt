@@ -5,7 +5,6 @@ ghost use Rattle.frac_core.specs.Parts.{max_part};
 ghost use Rattle.rational.specs.Rational.{whole};
 ghost use Rattle.rational.specs.Rounding.{floor_of};
 ghost use Rattle.program_law.specs.Program.{Program};
-ghost use Rattle.check_law.specs.Tree.{bounds_at};
 ghost use Rattle.branching_law.specs.Paths.{above};
 ghost use Rattle.search_steps.specs.Trails.{path_of, waiting_of, paths_left, IsTrail, GoesBelow};
 
@@ -32,17 +31,6 @@ pub struct Trail {
     pub turns: Vector<Turn>,
     pub region: Region,
     pub steps: Vec<Step>,
-}
-
-// The bounds of a column.
-fn bounds_at(region: &Region, j: u32) -> Row
-    requires { j < length region.now }
-    ensures { result ≡ bounds_at region.now j }
-{
-    Row {
-        low: region.low(j),
-        high: region.high(j),
-    }
 }
 
 // The least whole number above a turn's k.
@@ -135,7 +123,7 @@ impl Trail {
         ensures below { OnOk result (GoesBelow self.old j (floor_of x) self.new) }
         ensures trail { (p : Program) → IsTrail p self.old → OnOk result (IsTrail p self.new) }
     {
-        let before = bounds_at(&self.region, j);
+        let before = self.region.at(j);
         let turn = turn_below(j, x);
         push(&mut self.steps, Step { turn, before })?;
         self.region.cut_high(j, whole_before(x));

@@ -114,6 +114,72 @@ fn edges_pass_on(rt: HostRuntime) -> Result<(), Fail> {
     Ok(())
 }
 
+/// Takes half of each piece, of an odd one the larger half.
+#[derive(Drop)]
+struct Halving {
+    taken: Vec<u8>,
+}
+
+impl Write for Halving {
+    fn write(&mut self, piece: &[u8]) -> io::Result<usize> {
+        let count = piece.len() - piece.len() / 2;
+        self.taken.extend_from_slice(&piece[..count])?;
+        Ok(count)
+    }
+
+    fn flush(&mut self) -> io::Result<()> {
+        Ok(())
+    }
+}
+
+#[test]
+fn edges_pass_on_short_writes(rt: HostRuntime) -> Result<(), Fail> {
+    let mut halving = Halving {
+        taken: Vec::new(rt.alloc()),
+    };
+    let mut sink = WriteEdge::of(&mut halving);
+    assert_eq!(rt; sink.write(b"ab"), Ok(1));
+    assert_eq!(rt; write_all(&mut sink, b"cdefghi"), Ok(()));
+    assert_eq!(rt; halving.taken.as_slice(), b"acdefghi".as_slice());
+    Ok(())
+}
+
+/// More bytes than any block has, in a pattern whose length divides no block's.
+fn long_text(alloc: Global) -> Result<Vec<u8>, Fail> {
+    let mut text = Vec::new(alloc);
+    for i in 0..100_000u32 {
+        text.push((i % 251) as u8)?;
+    }
+    Ok(text)
+}
+
+/// One call of the source gives the whole of a long text.
+fn gives_at_once<S: Source>(alloc: Global, source: &mut S, text: &[u8]) -> Result<bool, Fail> {
+    let mut part = vec![in alloc; 0u8; 100_000]?;
+    Ok(source.read(&mut part) == Ok(100_000) && part.as_slice() == text)
+}
+
+#[test]
+fn long_reads_are_whole(rt: HostRuntime) -> Result<(), Fail> {
+    let text = long_text(rt.alloc())?;
+    let mut steady = SteadySource::of(long_text(rt.alloc())?, 100_000);
+    assert!(rt; gives_at_once(rt.alloc(), &mut steady, &text)?);
+    let mut edge = ReadEdge::of(text.as_slice());
+    assert!(rt; gives_at_once(rt.alloc(), &mut edge, &text)?);
+
+    let mut steady = SteadySource::of(long_text(rt.alloc())?, 100_000);
+    assert!(rt;
+        read_all(rt.alloc(), &mut steady, 100_000).is_ok_and(|read| read.as_slice()
+            == text.as_slice())
+    );
+    let mut edge = ReadEdge::of(text.as_slice());
+    assert!(rt;
+        read_all(rt.alloc(), &mut edge, 100_000).is_ok_and(|read| read.as_slice()
+            == text.as_slice())
+    );
+    Ok(())
+}
+
 #[test]
 fn reads_up_to_a_limit(rt: HostRuntime) -> Result<(), Fail> {
     for per_call in [1, 2, 7] {

@@ -1,7 +1,7 @@
 use Rattle.std.specs.Prelude.{Ok, length}
 use Rattle.std.proofs.Common.{◌∙◌, ap, subst}
 use Rattle.certificate_law.specs.declared.Certificate.TheVariants.{NotConvex}
-use Rattle.check_law.proofs.Checks.{good_passes}
+use Rattle.cert_check_law.proofs.Checks.{good_passes}
 use Rattle.convexity.specs.declared.Curvature.{Curvature}
 use Rattle.convexity.specs.Meaning.{HasWidth, IsCurvatureOf}
 use Rattle.branching.proofs.Pathed.{path_if}

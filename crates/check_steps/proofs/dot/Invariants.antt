@@ -1,5 +1,5 @@
 use Rattle.std.proofs.Common.{◌≡◌, drop}
-use Rattle.check_law.specs.Dot.{dot_from, dot_of}
+use Rattle.cert_check_law.specs.Dot.{dot_from, dot_of}
 use Rattle.check_steps.proofs.dot.Given as goal
 
 -- the sum so far and what is left give the whole

@@ -7,5 +7,5 @@ returns c = record {
   rounding = some_rounding;
   found = λ p squares bases boxes is sum large room.
       let r = some_rounding p in
-      some_end p squares bases boxes is sum large room r.0 r.1;
+      some_end p squares bases boxes is sum r.0 r.1 large room;
 }

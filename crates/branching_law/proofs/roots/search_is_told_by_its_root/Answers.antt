@@ -1,5 +1,5 @@
 use Rattle.program_law.specs.Program.{bounds}
-use Rattle.form_law.proofs.Rays.{is_ray}
+use Rattle.equational_law.proofs.Rays.{is_ray}
 use Rattle.branching_law.specs.Paths.{region_of}
 use Rattle.branching_law.proofs.PathRegions.{behind_has}
 use Rattle.branching_law.proofs.BelowRoots.{point_root, best_root}

@@ -1,6 +1,6 @@
 use Rattle.std.proofs.Common.{◌≡◌, drop}
 use Rattle.program_law.specs.Vectors.{column}
-use Rattle.check_law.specs.Dot.{dot_from, dot_of}
+use Rattle.cert_check_law.specs.Dot.{dot_from, dot_of}
 use Rattle.cert_check.proofs.leaves.column_dot.Given as goal
 
 -- what is done so far and what is left give the whole

@@ -1,7 +1,7 @@
 use Rattle.std.proofs.Common.{◌≡◌, drop}
 use Rattle.rational.specs.Rational.{zero_ℚ}
 use Rattle.program_law.specs.Program.{sides}
-use Rattle.check_law.specs.Leaf.{with_rows}
+use Rattle.cert_check_law.specs.Leaf.{with_rows}
 use Rattle.cert_check.proofs.leaves.rows_added.Given as goal
 
 -- what is done so far and what is left give the whole

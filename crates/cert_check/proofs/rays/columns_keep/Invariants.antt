@@ -1,6 +1,6 @@
 use Rattle.std.proofs.Common.{◌≡◌, ◌+◌, drop}
 use Rattle.program_law.specs.Program.{bounds}
-use Rattle.check_law.specs.Ray.{columns_keep}
+use Rattle.cert_check_law.specs.Ray.{columns_keep}
 use Rattle.cert_check.proofs.rays.columns_keep.Given as goal
 
 -- what is done so far and what is left give the whole

@@ -1,5 +1,5 @@
 use Rattle.std.proofs.Common.{◌≡◌, ◌+◌, drop}
-use Rattle.check_law.specs.Ray.{rows_flat}
+use Rattle.cert_check_law.specs.Ray.{rows_flat}
 use Rattle.cert_check.proofs.rays.rows_flat.Given as goal
 
 -- what is done so far and what is left give the whole

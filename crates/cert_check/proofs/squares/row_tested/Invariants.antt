@@ -1,5 +1,5 @@
 use Rattle.std.proofs.Common.{◌≡◌, ◌-◌, length}
-use Rattle.check_law.specs.Squares.{pairs_in_row}
+use Rattle.cert_check_law.specs.Squares.{pairs_in_row}
 use Rattle.cert_check.proofs.squares.row_tested.Given as goal
 
 -- what is done so far and what is left give the whole

@@ -1,6 +1,6 @@
 use Rattle.std.proofs.Common.{◌≡◌, drop}
 use Rattle.rational.specs.Rational.{zero_ℚ}
-use Rattle.check_law.specs.Squares.{squares_from}
+use Rattle.cert_check_law.specs.Squares.{squares_from}
 use Rattle.cert_check.proofs.squares.squares_added.Given as goal
 
 -- what is done so far and what is left give the whole

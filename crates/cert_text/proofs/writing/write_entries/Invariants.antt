@@ -1,5 +1,5 @@
 use Rattle.std.proofs.Common.{◌≡◌, ◌++◌, drop}
-use Rattle.cert_text.specs.Appending.{Extends}
+use Rattle.cert_fields.specs.Appending.{Extends}
 use Rattle.cert_text.specs.Text.{names_on, lines_text, entry_lines}
 use Rattle.cert_text.proofs.writing.write_entries.Given as goal
 

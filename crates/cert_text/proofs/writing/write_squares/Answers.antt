@@ -1,5 +1,6 @@
+use Rattle.cert_check_law.specs.Fits.{IsColumnVector}
 use Rattle.cert_text.specs.Text.{square_lines}
-use Rattle.cert_text.proofs.Appended.{extends_then, extends_by, stopped, one_more, lines_step}
+use Rattle.cert_text.proofs.Appended.{extends_then, extends_by, stopped, one_more, lines_step, all_at}
 use Rattle.cert_text.proofs.writing.write_squares.Goals as goal
 
 pub returns-in_err-write_square : goal.returns-in_err-write_square
@@ -12,3 +13,6 @@ loop-k-preserved c =
       extends = extends_then _ _ _ c.loop-k.invariant.extends (extends_by _ _ _ c.in_ok-write_square.ensures);
       whole = one_more _ _ _ _ _ _ c.loop-k.invariant.whole step c.in_ok-write_square.ensures;
     }
+
+pub write_square-requires : goal.write_square-requires
+write_square-requires c = all_at (λ s. IsColumnVector c.args.p.now s.coef) c.args.squares.now c.loop-k.k _ c.requires c.get.ensures

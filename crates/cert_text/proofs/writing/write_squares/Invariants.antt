@@ -1,6 +1,6 @@
 use Rattle.std.proofs.Common.{◌≡◌, ◌++◌, drop}
 use Rattle.std.specs.List.{flat_map}
-use Rattle.cert_text.specs.Appending.{Extends}
+use Rattle.cert_fields.specs.Appending.{Extends}
 use Rattle.cert_text.specs.Text.{lines_text, square_lines}
 use Rattle.cert_text.proofs.writing.write_squares.Given as goal
 

@@ -1,5 +1,6 @@
+use Rattle.cert_check_law.specs.Fits.{FitsNode}
 use Rattle.cert_text.specs.Text.{node_lines}
-use Rattle.cert_text.proofs.Appended.{extends_then, extends_by, stopped, one_more, lines_step}
+use Rattle.cert_text.proofs.Appended.{extends_then, extends_by, stopped, one_more, lines_step, all_at}
 use Rattle.cert_text.proofs.writing.write_tree.Goals as goal
 
 pub returns-in_err-write_node : goal.returns-in_err-write_node
@@ -12,3 +13,6 @@ loop-k-preserved c =
       extends = extends_then _ _ _ c.loop-k.invariant.extends (extends_by _ _ _ c.in_ok-write_node.ensures);
       whole = one_more _ _ _ _ _ _ c.loop-k.invariant.whole step c.in_ok-write_node.ensures;
     }
+
+pub write_node-requires : goal.write_node-requires
+write_node-requires c = all_at (FitsNode c.args.p.now) c.args.tree.now c.loop-k.k _ c.requires c.node.ensures

@@ -1,5 +1,5 @@
 use Rattle.std.proofs.Common.{◌≡◌, ◌≤◌, ◌+◌, length, drop, take}
-use Rattle.form_law.specs.Standing.{parts}
+use Rattle.equational_law.specs.Standing.{parts}
 use Rattle.equational.specs.Back.{columns_in, with_rest}
 use Rattle.equational.proofs.back.columns_back.Given as goal
 

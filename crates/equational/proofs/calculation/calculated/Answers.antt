@@ -2,9 +2,9 @@ use Rattle.std.proofs.Common.{◌≡◌, List, Ok, ap, sym, ◌∙◌, length}
 use Rattle.std.proofs.lemmas.Result.{err_from_is_err_and}
 use Rattle.rational.specs.Rational.{ℚ}
 use Rattle.frac_core.specs.Parts.{max_part}
-use Rattle.form_law.specs.Standing.{shift, spread}
-use Rattle.form_law.specs.Form.{padded, form_of}
-use Rattle.form_law.specs.Calculation.{form_in}
+use Rattle.equational_law.specs.Standing.{shift, spread}
+use Rattle.equational_law.specs.Form.{padded, form_of}
+use Rattle.equational_law.specs.Calculation.{form_in}
 use Rattle.equational.specs.Built.{Laid, all_slacks, objective_in, IsMade}
 use Rattle.equational.specs.Formed.{Formed}
 use Rattle.equational.proofs.Whole.{made, is_stopped, objective_stops, rows_stop, columns_stop}
@@ -28,7 +28,7 @@ returns-in_err-firsts-clause-calculation c =
     let second = c.deref-2.ensures.value ∙ h in
     rw (q.1, q.2)
     (is_stopped c.in_err-firsts.field-0.0 _ (rows_stop c.in_err-firsts.field-0.0 p c.args.region.now c.deref-2.result.now (c.in_ok-costs.costs.items, c.in_ok-costs.constant) c.in_ok-layout.layout
-    (all_slacks c.in_ok-layout.layout) c.in_ok-rows.rows second c.in_ok-layout.ensures (ap (objective_in max_part p) (second ∙ sym first) ∙ c.in_ok-costs.ensures.objective) c.in_err-firsts.ensures.equations))
+    (all_slacks c.in_ok-layout.layout) c.new-rows.result second c.in_ok-layout.ensures (ap (objective_in max_part p) (second ∙ sym first) ∙ c.in_ok-costs.ensures.objective) c.in_err-firsts.ensures.equations))
 
 pub returns-in_err-columns_taken-clause-calculation : goal.returns-in_err-columns_taken-clause-calculation
 returns-in_err-columns_taken-clause-calculation c =
@@ -39,7 +39,7 @@ returns-in_err-columns_taken-clause-calculation c =
     let second = c.deref-2.ensures.value ∙ h in
     rw (q.1, q.2)
     (is_stopped c.in_err-columns_taken.field-0.0 _ (columns_stop c.in_err-columns_taken.field-0.0 p c.args.region.now c.deref-2.result.now (c.in_ok-costs.costs.items, c.in_ok-costs.constant) c.in_ok-layout.layout
-    (all_slacks c.in_ok-layout.layout) c.in_ok-rows.rows c.rows_taken.new.rows second c.in_ok-layout.ensures (ap (objective_in max_part p) (second ∙ sym first) ∙ c.in_ok-costs.ensures.objective)
+    (all_slacks c.in_ok-layout.layout) c.new-rows.result c.rows_taken.new.rows second c.in_ok-layout.ensures (ap (objective_in max_part p) (second ∙ sym first) ∙ c.in_ok-costs.ensures.objective)
     c.in_ok-firsts.ensures.equations c.in_err-columns_taken.ensures))
 
 pub cost-requires : goal.cost-requires
@@ -54,9 +54,9 @@ whole c =
     let first = c.deref.ensures.value ∙ h in
     let second = c.deref-2.ensures.value ∙ h in
     let l = c.in_ok-layout.layout in
-    made p c.args.region.now c.deref-2.result.now c.in_ok-costs.costs.items c.in_ok-costs.constant l c.in_ok-rows.rows c.rows_taken.new.rows c.columns_taken.new.rows c.in_ok-firsts.firsts.items
+    made p c.args.region.now c.deref-2.result.now c.in_ok-costs.costs.items c.in_ok-costs.constant l c.new-rows.result c.rows_taken.new.rows c.columns_taken.new.rows c.in_ok-firsts.firsts.items
     c.in_ok-quadratic.quadratic.items c.in_ok-cost.cost c.columns-columns.ensures.program c.requires second c.in_ok-layout.ensures
-    (ap (objective_in max_part p) (second ∙ sym first) ∙ c.in_ok-costs.ensures.objective) c.in_ok-rows.ensures c.in_ok-firsts.ensures.equations c.in_ok-columns_taken.ensures c.in_ok-firsts.ensures.firsts
+    (ap (objective_in max_part p) (second ∙ sym first) ∙ c.in_ok-costs.ensures.objective) c.new-rows.ensures c.in_ok-firsts.ensures.equations c.in_ok-columns_taken.ensures c.in_ok-firsts.ensures.firsts
     c.in_ok-quadratic.ensures (c.in_ok-cost.ensures ∙ ap (λ (cs : List ℚ). padded (all_slacks l) (spread l.region cs)) c.deref-3.ensures.value)
 
 pub assembled-requires : goal.assembled-requires

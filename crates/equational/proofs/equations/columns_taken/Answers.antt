@@ -1,8 +1,8 @@
 use Rattle.std.proofs.Common.{◌≡◌, ◌<◌, length, get_or, arith, ap, ◌∙◌}
 use Rattle.std.proofs.lemmas.Result.{err_from_is_err_and}
 use Rattle.program_law.specs.declared.Row.{Row}
-use Rattle.form_law.specs.Standing.{parts_at, standing}
-use Rattle.form_law.specs.Equations.{bound_slacks_by}
+use Rattle.equational_law.specs.Standing.{parts_at, standing}
+use Rattle.equational_law.specs.Equations.{bound_slacks_by}
 use Rattle.equational.specs.Built.{all_slacks}
 use Rattle.equational.proofs.Columns.{column_stops, column_on, columns_end}
 use Rattle.equational.proofs.Places.{same_place, place_in, parts_next, bound_slacks_next}

@@ -1,6 +1,6 @@
 use Rattle.std.proofs.Common.{◌≡◌, ◌≤◌, ◌+◌, ◌*◌, drop}
-use Rattle.form_law.specs.Standing.{parts}
-use Rattle.form_law.specs.Equations.{bound_slacks}
+use Rattle.equational_law.specs.Standing.{parts}
+use Rattle.equational_law.specs.Equations.{bound_slacks}
 use Rattle.equational.specs.Built.{all_slacks, appended}
 use Rattle.equational.proofs.Columns.{columns_left}
 use Rattle.equational.proofs.equations.columns_taken.Given as goal

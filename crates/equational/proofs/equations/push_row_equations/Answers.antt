@@ -1,6 +1,6 @@
 use Rattle.std.proofs.Common.{ap, sym, ◌∙◌}
 use Rattle.rational.specs.Rational.{ℚ, neg_ℚ}
-use Rattle.form_law.specs.Standing.{spread}
+use Rattle.equational_law.specs.Standing.{spread}
 use Rattle.equational.specs.Built.{all_slacks, taken}
 use Rattle.equational.proofs.Gathered.{answers_as, by_same, by_others, by_low, by_high, by_none}
 use Rattle.equational.proofs.equations.push_row_equations.Goals as goal

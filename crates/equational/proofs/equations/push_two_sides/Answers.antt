@@ -1,10 +1,10 @@
-use Rattle.std.proofs.Common.{ap, sym, ◌∙◌}
+use Rattle.std.proofs.Common.{ap, sym}
 use Rattle.std.proofs.lemmas.Result.{err_from_is_err_and}
-use Rattle.form_law.specs.Standing.{parts, spread}
-use Rattle.form_law.specs.Calculation.{number}
-use Rattle.form_law.proofs.Adjoint.{length-spread}
+use Rattle.equational_law.specs.Standing.{parts, spread}
+use Rattle.frac_core.specs.Calculated.{answered}
+use Rattle.equational_law.proofs.Adjoint.{length-spread}
 use Rattle.equational.specs.Built.{all_slacks}
-use Rattle.equational.proofs.Chains.{stops_as}
+use Rattle.exact_matrix.specs.declared.systems.Stop.TheVariants.{Past}
 use Rattle.equational.proofs.Gathered.{two_first, two_gap, two_done}
 use Rattle.equational.proofs.equations.push_two_sides.Goals as goal
 
@@ -19,12 +19,12 @@ pub returns-in_err-gap : goal.returns-in_err-gap
 returns-in_err-gap c =
     let p = err_from_is_err_and c.from_residual-in_err-gap.result c.from_residual-in_err-gap.ensures.1 in
     rw (p.1, p.2)
-    (two_gap c.in_err-gap.field-0.0 (all_slacks c.args.layout.now) c.args.rows.now c.push_side.new.rows (spread c.args.layout.now.region c.args.row.now) c.args.before c.whole-entry.result c.args.sides.0 c.args.sides.1
-    c.args.product c.in_ok-negated.negated c.whole-entry.ensures c.in_ok-negated.ensures (stops_as c.in_err-gap.field-0.0 _ _ (ap number c.sub.ensures) c.in_err-gap.ensures))
+    (two_gap (Past _) (all_slacks c.args.layout.now) c.args.rows.now c.push_side.new.rows (spread c.args.layout.now.region c.args.row.now) c.args.before c.whole-entry.result c.args.sides.0 c.args.sides.1
+    c.args.product c.in_ok-negated.negated c.whole-entry.ensures c.in_ok-negated.ensures (ap answered c.in_err-gap.ensures))
 
 pub returns : goal.returns
 returns c =
     let row = spread c.args.layout.now.region c.args.row.now in
     two_done (all_slacks c.args.layout.now) c.args.rows.now c.push_side.new.rows c.push_slacks.new.self row c.args.before (parts c.args.layout.now.region) c.whole-entry.result c.args.sides.0 c.args.sides.1
     c.args.product c.in_ok-gap.gap c.in_ok-negated.negated c.whole-entry.ensures (sym (length-spread c.args.layout.now.region c.args.row.now)) c.in_ok-negated.ensures
-    (ap number (sym c.sub.ensures) ∙ c.in_ok-gap.ensures) c.in_ok-push_slacks.ensures
+    (ap answered c.in_ok-gap.ensures) c.in_ok-push_slacks.ensures

@@ -1,6 +1,6 @@
 use Rattle.std.proofs.Common.{◌≡◌, ◌≤◌, ◌+◌, ◌*◌, ◌++◌, List, drop, length}
 use Rattle.program_law.specs.Program.{sides}
-use Rattle.form_law.specs.Equations.{Equation, row_slacks, row_equations}
+use Rattle.equational_law.specs.Equations.{Equation, row_slacks, row_equations}
 use Rattle.equational.specs.Formed.{firsts_from}
 use Rattle.equational.specs.Built.{all_slacks, appended}
 use Rattle.equational.proofs.Gathered.{rows_left}

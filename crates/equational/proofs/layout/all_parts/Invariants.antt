@@ -1,5 +1,5 @@
 use Rattle.std.proofs.Common.{◌≡◌, ◌≤◌, ◌+◌, ◌*◌, drop}
-use Rattle.form_law.specs.Standing.{parts}
+use Rattle.equational_law.specs.Standing.{parts}
 use Rattle.equational.proofs.layout.all_parts.Given as goal
 
 -- the count so far and what is left give the whole

@@ -1,6 +1,6 @@
 use Rattle.std.proofs.Common.{◌≡◌, ◌≤◌, ◌+◌, ◌*◌, drop}
 use Rattle.program_law.specs.Program.{sides}
-use Rattle.form_law.specs.Equations.{row_slacks}
+use Rattle.equational_law.specs.Equations.{row_slacks}
 use Rattle.equational.proofs.layout.all_row_slacks.Given as goal
 
 -- the count so far and what is left give the whole

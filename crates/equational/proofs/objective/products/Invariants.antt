@@ -1,7 +1,8 @@
 use Rattle.std.proofs.Common.{◌≡◌, ◌++◌, drop, length}
 use Rattle.std.specs.Prelude.{Ok}
 use Rattle.frac_core.specs.Parts.{max_part}
-use Rattle.form_law.specs.Calculation.{◌>>=◌, products_in}
+use Rattle.frac_core.specs.Calculated.{◌>>=◌}
+use Rattle.equational_law.specs.Calculation.{products_in}
 use Rattle.equational.proofs.objective.products.Given as goal
 
 -- what is done and what is left give the whole

@@ -1,5 +1,5 @@
 use Rattle.std.proofs.Common.{◌≡◌, ◌++◌, drop}
-use Rattle.form_law.specs.Standing.{shift}
+use Rattle.equational_law.specs.Standing.{shift}
 use Rattle.equational.proofs.objective.shift.Given as goal
 
 -- what is done and what is left give the whole

@@ -1,7 +1,7 @@
 use Rattle.std.proofs.Common.{ap, ◌∙◌, ◌++◌}
 use Rattle.std.proofs.lemmas.Result.{on_ok_weaker}
 use Rattle.program_law.specs.Region.{Region}
-use Rattle.form_law.specs.Standing.{spread}
+use Rattle.equational_law.specs.Standing.{spread}
 use Rattle.equational.specs.Built.{all_slacks, signed}
 use Rattle.equational.proofs.Pairs.{padded_pushed}
 use Rattle.equational.proofs.quadratic.push_padded.Goals as goal

@@ -1,5 +1,5 @@
 use Rattle.std.proofs.lemmas.Result.{on_ok_weaker}
-use Rattle.form_law.specs.Standing.{spread}
+use Rattle.equational_law.specs.Standing.{spread}
 use Rattle.equational.specs.Built.{all_slacks}
 use Rattle.equational.proofs.Pairs.{below_pairs, free_pairs}
 use Rattle.equational.proofs.quadratic.push_pairs.Goals as goal

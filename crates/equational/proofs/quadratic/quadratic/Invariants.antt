@@ -1,7 +1,7 @@
 use Rattle.std.proofs.Common.{◌≡◌, ◌++◌, drop, map}
 use Rattle.exact_matrix.specs.Systems.{joined}
-use Rattle.form_law.specs.Standing.{spread, spread_rows}
-use Rattle.form_law.specs.Form.{padded}
+use Rattle.equational_law.specs.Standing.{spread, spread_rows}
+use Rattle.equational_law.specs.Form.{padded}
 use Rattle.equational.specs.Built.{all_slacks}
 use Rattle.equational.proofs.quadratic.quadratic.Given as goal
 

@@ -1,5 +1,5 @@
 use Rattle.std.proofs.Common.{◌≡◌, ◌++◌, drop}
-use Rattle.form_law.specs.Standing.{spread}
+use Rattle.equational_law.specs.Standing.{spread}
 use Rattle.equational.specs.Built.{signed}
 use Rattle.equational.proofs.rows.push_spread.Given as goal
 

@@ -6,7 +6,7 @@ use Rattle.exact_matrix.proofs.answers.solution.Goals as goal
 pub loop-j-init : goal.loop-j-init
 loop-j-init g c =
     let v = g.F.ExactField.value in
-    solution_start v c.args.n (state v c.args.pivots.now c.args.rows.now) c.in_ok-z.z c.in_ok-z.ensures
+    solution_start v c.args.n (state v c.args.pivots.now c.args.rows.now) c.new-z.result c.new-z.ensures
 
 pub loop-j-preserved : goal.loop-j-preserved
 loop-j-preserved g c =

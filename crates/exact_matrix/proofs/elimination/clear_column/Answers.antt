@@ -4,7 +4,8 @@ use Rattle.std.proofs.lemmas.Result.{err_from_is_err_and}
 use Rattle.frac_core.specs.declared.fractions.Refused.{Refused}
 use Rattle.exact_matrix.specs.Elimination.{Line}
 use Rattle.exact_matrix.specs.Grid.{row_at}
-use Rattle.exact_matrix.specs.State.{IsLines, state}
+use Rattle.frac_core.specs.Calculated.{Leaves}
+use Rattle.exact_matrix.specs.State.{state}
 use Rattle.exact_matrix.proofs.States.{entry_read, cleared_by_copy, cleared_past}
 use Rattle.exact_matrix.proofs.elimination.clear_column.Goals as goal
 
@@ -20,4 +21,4 @@ returns-clause-lines g c =
     let v = g.F.ExactField.value in
     let e = cleared_by_copy v (unsigned_abs g.F.ExactField.TOP) c.args.j c.args.pivots.now c.set.new.self c.args.rows.now c.divide.new.self c.args.i (v c.at-pivot.result) c.copy_from_slice.new.self c.row.result.now
     c.requires.pivot (entry_read v (row_at c.args.rows.now c.args.i) c.args.j c.at-pivot.result c.at-pivot.ensures) c.in_ok-divide.ensures.row c.divide.ensures.rest c.set.ensures c.copy_from_slice.ensures.after c.row.ensures.value in
-    subst (λ (r : Result (List Line) Refused). IsLines c.free_rows.result (state v c.set.new.self c.free_rows.new.rows) r) (sym e) c.free_rows.ensures.lines
+    subst (λ (r : Result (List Line) Refused). Leaves (state v c.set.new.self c.free_rows.new.rows) c.free_rows.result r) (sym e) c.free_rows.ensures.lines

@@ -7,7 +7,7 @@ use Rattle.frac_core.specs.Row.{row_less}
 use Rattle.exact_matrix.specs.Elimination.{Line}
 use Rattle.exact_matrix.specs.EliminationCalculation.{with_entries}
 use Rattle.exact_matrix.specs.Grid.{row_at}
-use Rattle.exact_matrix.specs.State.{IsLine}
+use Rattle.frac_core.specs.Calculated.{Leaves}
 use Rattle.exact_matrix.proofs.States.{entry_read, freed_pivot, freed_zero, freed_more, taken_line}
 use Rattle.exact_matrix.proofs.elimination.free_row.Goals as goal
 
@@ -30,5 +30,5 @@ returns-clause-line g c =
     let f = freed_more top c.args.j (map v c.args.p.now) (record { pivot = c.args.pivot; entries = row }) (sym c.is_pivot.ensures ∙ c.if-is_pivot.false)
     (ap (λ x. same_fields x zero_ℚ) e ∙ sym c.is_zero.ensures ∙ c.if-is_zero.false)
     ∙ ap (λ (x : ℚ). with_entries c.args.pivot (row_less top x row (map v c.args.p.now))) e in
-    subst (λ (r : Result Line Refused). IsLine c.take_times.result (record { pivot = c.args.pivot; entries = map v (row_at c.take_times.new.self c.args.i) }) r) (sym f)
+    subst (λ (r : Result Line Refused). Leaves (record { pivot = c.args.pivot; entries = map v (row_at c.take_times.new.self c.args.i) }) c.take_times.result r) (sym f)
     (taken_line v c.take_times.result c.args.pivot (row_at c.take_times.new.self c.args.i) _ c.take_times.ensures.row)

@@ -2,7 +2,8 @@ use Rattle.std.proofs.Common.{map, length, ◌<◌, sym, ◌∙◌, arith}
 use Rattle.std.specs.Prelude.{unsigned_abs}
 use Rattle.std.proofs.lemmas.List.{length-map, map-set}
 use Rattle.std.proofs.lemmas.Result.{err_from_is_err_and}
-use Rattle.exact_matrix.proofs.Passes.{divided_more, divided_past, divided_end, number_read}
+use Rattle.frac_core.proofs.Dots.{number_read}
+use Rattle.exact_matrix.proofs.Passes.{divided_more, divided_past, divided_end}
 use Rattle.exact_matrix.proofs.rows.divide.Goals as goal
 
 pub returns : goal.returns

@@ -6,5 +6,5 @@ use Rattle.mps_writer.proofs.bounds.push_bounds.Goals as goal
 pub loop-j-preserved : goal.loop-j-preserved
 loop-j-preserved c =
     section_more (codes "BOUNDS") [] c.loop-j.j (λ j. bound_lines (column_name c.args.p.now j) (bounds_at c.args.p.now j).low (bounds_at c.args.p.now j).high) _ _ _ _ _ c.loop-j.invariant
-    (rw (c.column_name.ensures, c.bounds_at.ensures) at c.in_ok-begun.ensures.ok)
-    (rw (c.column_name.ensures, c.bounds_at.ensures) at c.in_ok-begun.ensures.begun)
+    (rw (c.column_name.ensures, c.bounds.ensures) at c.in_ok-begun.ensures.ok)
+    (rw (c.column_name.ensures, c.bounds.ensures) at c.in_ok-begun.ensures.begun)

@@ -1,5 +1,5 @@
 use Rattle.std.proofs.Common.{◌≡◌, drop}
-use Rattle.check_law.specs.Value.{form_of}
+use Rattle.cert_check_law.specs.Value.{form_of}
 use Rattle.program_model.proofs.ValueLemmas.{form_from}
 use Rattle.program_model.proofs.points.form.Given as goal
 

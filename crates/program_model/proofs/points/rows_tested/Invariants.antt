@@ -1,6 +1,6 @@
 use Rattle.std.proofs.Common.{◌≡◌, ◌+◌, drop}
 use Rattle.program_law.specs.Program.{sides}
-use Rattle.check_law.specs.Point.{rows_within}
+use Rattle.cert_check_law.specs.Point.{rows_within}
 use Rattle.program_model.proofs.points.rows_tested.Given as goal
 
 -- what is done so far and what is left give the whole

@@ -4,9 +4,9 @@ use Rattle.rational.specs.Rational.{ℚ}
 use Rattle.frac_core.specs.declared.fractions.Tried.{Tried}
 use Rattle.frac_core.specs.declared.fractions.Tried.TheVariants.{Is, Past}
 use Rattle.program_law.specs.Program.{Program}
-use Rattle.check_law.specs.declared.Event.{Event}
-use Rattle.check_law.specs.Chain.{answered, NoTestFails}
-use Rattle.check_law.specs.Value.{value_of}
+use Rattle.cert_check_law.specs.declared.Event.{Event}
+use Rattle.cert_check_law.specs.Chain.{answered, NoTestFails}
+use Rattle.cert_check_law.specs.Value.{value_of}
 use Rattle.program_model.specs.Tested.{IsValueIfTold}
 use Rattle.program_model.proofs.PointLemmas.{value_passes, value_ends}
 use Rattle.program_model.proofs.points.value.Goals as goal

@@ -1,11 +1,14 @@
-use Rattle.std.specs.Prelude.{List, [], ◌≡◌, ◌-◌, slice_set}
+use Rattle.std.specs.Prelude.{List, ◌≡◌, ◌-◌, slice_set}
 use Rattle.std.proofs.Common.{sym, subst, arith}
 use Rattle.rational.specs.Rational.{ℚ}
 use Rattle.program_law.specs.Vectors.{row_at}
 use Rattle.std.specs.Vec.{with_items}
 use borrow.Rule.Slice.PartMut.{put_mid}
-use Rattle.convexity.specs.Chain.{Leaves}
-use Rattle.convexity.specs.Onto.{less_onto}
+use Rattle.frac_core.specs.Calculated.{Leaves}
+use Rattle.frac_core.specs.Parts.{max_part}
+use Rattle.frac_core.specs.Row.{row_less}
+use Rattle.convexity.specs.Chain.{row_answered}
+use Rattle.convexity.proofs.Onto.{row_left}
 use Rattle.convexity.specs.Triangle.{rows_of}
 use Rattle.convexity.proofs.Triangles.{size_is, place_is, row_read, row_width, vec_rows, row_now, rest_now}
 use Rattle.convexity.proofs.half.Half.take_times.Goals as goal
@@ -44,8 +47,8 @@ returns-clause-row c =
     let now = row_now c.args.self.now _ c.args.k c.take_times.new.row c.requires.row (written c) in
     let was = row_read c.self.inside.size c.self.inside.entries.items c.deref_mut.result.now c.args.self.now c.args.k c.part_of-start.result.0 c.part_of-start.result.1
     c.self.view_is c.requires.row c.deref_mut.ensures.value c.part_of-start.ensures.start c.part_of-start.ensures.end in
-    subst (λ (new : List ℚ). Leaves new c.take_times.result (less_onto c.args.f [] (row_at c.args.self.now c.args.k) c.args.v.now)) (sym now)
-    (subst (λ (old : List ℚ). Leaves c.take_times.new.row c.take_times.result (less_onto c.args.f [] old c.args.v.now)) was c.take_times.ensures)
+    subst (λ (new : List ℚ). Leaves new c.take_times.result (row_answered (row_less max_part c.args.f (row_at c.args.self.now c.args.k) c.args.v.now))) (sym now)
+    (subst (λ (old : List ℚ). Leaves c.take_times.new.row c.take_times.result (row_answered (row_less max_part c.args.f old c.args.v.now))) was (row_left c.take_times.result c.take_times.new.row c.args.f _ c.args.v.now c.take_times.ensures.calculation))
 
 pub returns-clause-rest : goal.returns-clause-rest
 returns-clause-rest c = rest_now c.args.self.now _ c.args.k c.take_times.new.row c.requires.row (written c)

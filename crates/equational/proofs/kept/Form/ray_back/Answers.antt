@@ -1,6 +1,6 @@
 use Rattle.std.proofs.Common.{◌≡◌, ◌∙◌, ap, sym}
 use Rattle.frac_core.specs.Parts.{max_part}
-use Rattle.form_law.proofs.Calculated.{ray_gives}
+use Rattle.equational_law.proofs.Calculated.{ray_gives}
 use Rattle.equational.specs.Formed.{Formed}
 use Rattle.equational.proofs.Answered.{answer_operations, answer_value}
 use Rattle.equational.proofs.kept.Form.ray_back.Goals as goal

@@ -3,7 +3,7 @@ use Rattle.std.proofs.lemmas.Result.{on_ok_weaker}
 use Rattle.rational.specs.Rational.{ℚ, one_ℚ}
 use Rattle.rational.specs.Vectors.{zeros}
 use Rattle.program_law.specs.Tests.{is_negative}
-use Rattle.form_law.specs.Standing.{parts}
+use Rattle.equational_law.specs.Standing.{parts}
 use Rattle.equational.specs.Built.{all_slacks, signed_by}
 use Rattle.equational.proofs.Appended.{equation_pushed, column_left}
 use Rattle.equational.proofs.rows.Rows.push_column.Goals as goal

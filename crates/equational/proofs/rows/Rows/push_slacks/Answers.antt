@@ -2,7 +2,7 @@ use Rattle.std.proofs.Common.{ℕ, ap, ◌∙◌, ◌++◌}
 use Rattle.std.proofs.lemmas.Result.{on_ok_weaker}
 use Rattle.rational.specs.Vectors.{zeros}
 use Rattle.program_law.specs.Tests.{is_negative}
-use Rattle.form_law.specs.Standing.{parts}
+use Rattle.equational_law.specs.Standing.{parts}
 use Rattle.equational.specs.Built.{all_slacks}
 use Rattle.equational.proofs.Appended.{equation_pushed, slacks_left}
 use Rattle.equational.proofs.rows.Rows.push_slacks.Goals as goal

@@ -1,8 +1,7 @@
 use Rattle.std.proofs.Common.{◌≡◌, ◌≤◌, ◌+◌, ◌-◌, ◌*◌, List, length, map, sym, subst, arith}
 use Rattle.std.specs.Prelude.{unsigned_abs}
 use Rattle.std.proofs.Math.Nat.{mul-le-mul_right}
-use Rattle.frac_core.specs.Row.{IsRow}
-use Rattle.frac_core.specs.Row.{row_less}
+use Rattle.frac_core.specs.Row.{IsRow, row_less}
 use Rattle.std.specs.Vec.{with_items}
 use borrow.Rule.Slice.PartMut.{put_mid}
 use Rattle.exact_matrix.specs.Grid.{with_row, row_at, rows_of}
@@ -47,7 +46,7 @@ returns-clause-row g c =
     let now = row_now c.args.self.now _ c.args.i c.take_times.new.row c.requires.row (written g c) in
     let was = row_read c.self.inside.columns c.self.inside.rows c.self.inside.entries.items c.deref_mut.result.now c.args.self.now c.args.i c.self.view_is c.requires.row c.deref_mut.ensures.value in
     subst (λ (new : List g.row.F.Denot). IsRow v c.take_times.result new (row_less top (v c.args.f) (map v (row_at c.args.self.now c.args.i)) (map v c.args.other.now))) (sym now)
-    (subst (λ (old : List g.row.F.Denot). IsRow v c.take_times.result c.take_times.new.row (row_less top (v c.args.f) (map v old) (map v c.args.other.now))) was c.take_times.ensures)
+    (subst (λ (old : List g.row.F.Denot). IsRow v c.take_times.result c.take_times.new.row (row_less top (v c.args.f) (map v old) (map v c.args.other.now))) was c.take_times.ensures.calculation)
 
 pub returns-clause-rest : goal.returns-clause-rest
 returns-clause-rest g c = rest_now c.args.self.now _ c.args.i c.take_times.new.row c.requires.row (written g c)

@@ -1,8 +1,0 @@
-use Rattle.std.proofs.Common.{◌≡◌, ◌+◌, drop}
-use Rattle.program_law.specs.Program.{sides}
-use Rattle.check_law.specs.Point.{rows_within}
-use Rattle.cert_check.proofs.points.rows_tested.Given as goal
-
--- what is done so far and what is left give the whole
-abbrev pub invariant-loop-i : goal.invariant-loop-i
-invariant-loop-i l = rows_within (l.i + 1) (drop l.i (sides l.p)) (drop l.i l.p.entries) l.x ≡ rows_within 1 (sides l.p) l.p.entries l.x

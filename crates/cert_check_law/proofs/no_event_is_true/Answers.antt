@@ -1,0 +1,5 @@
+use Rattle.cert_check_law.proofs.Checks.{no_event_is_true as lemma}
+use Rattle.cert_check_law.proofs.no_event_is_true.Goals as goal
+
+pub returns : goal.returns
+returns c = lemma

@@ -1,9 +1,0 @@
-use Rattle.std.proofs.Common.{◌≡◌, true, take}
-use Rattle.std.specs.List.{list_all}
-use Rattle.std.specs.Char.{is_ascii_digit}
-use Rattle.std.specs.Str.Parse.{digits_value}
-use Rattle.cert_text.specs.Numerals.{IsCapped}
-use Rattle.cert_text.proofs.numbers.numeral.Given as goal
-
-abbrev pub invariant-loop-b : goal.invariant-loop-b
-invariant-loop-b l = (list_all is_ascii_digit (take l.b-index l.bytes) ≡ true) × IsCapped (digits_value 10 (take l.b-index l.bytes)) l.value

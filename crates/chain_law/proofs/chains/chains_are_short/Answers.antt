@@ -1,5 +1,0 @@
-use Rattle.chain_law.proofs.Steps.{short, spent_short}
-use Rattle.chain_law.proofs.chains.chains_are_short.Goals as goal
-
-pub returns : goal.returns
-returns c = record { bases = short; budget = λ p budget b problem. spent_short p problem budget b }

@@ -1,5 +1,0 @@
-use Rattle.check_law.proofs.Checks.{good_passes as lemma}
-use Rattle.check_law.proofs.good_fails_no_test.Goals as goal
-
-pub returns : goal.returns
-returns c = lemma

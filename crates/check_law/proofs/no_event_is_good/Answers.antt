@@ -1,5 +1,0 @@
-use Rattle.check_law.proofs.Checks.{no_event_is_good as lemma}
-use Rattle.check_law.proofs.no_event_is_good.Goals as goal
-
-pub returns : goal.returns
-returns c = lemma

@@ -1,5 +1,0 @@
-use Rattle.check_law.proofs.Checks.{no_event_is_true as lemma}
-use Rattle.check_law.proofs.no_event_is_true.Goals as goal
-
-pub returns : goal.returns
-returns c = lemma

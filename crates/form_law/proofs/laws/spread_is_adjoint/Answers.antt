@@ -1,6 +1,0 @@
-use Rattle.form_law.specs.Standing.{parts}
-use Rattle.form_law.proofs.Adjoint.{adjoint, spread_zero}
-use Rattle.form_law.proofs.laws.spread_is_adjoint.Goals as goal
-
-pub returns : goal.returns
-returns c = record { products = adjoint; zero = λ region v. spread_zero region v (parts region) }

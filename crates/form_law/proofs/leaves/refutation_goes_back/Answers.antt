@@ -1,5 +1,0 @@
-use Rattle.form_law.proofs.FarkasBack.{farkas_back}
-use Rattle.form_law.proofs.leaves.refutation_goes_back.Goals as goal
-
-pub returns : goal.returns
-returns c = farkas_back

@@ -1,8 +1,0 @@
-use Rattle.walk_law.proofs.WorkedHill as hill
-use Rattle.walk_law.proofs.WorkedPortfolio as portfolio
-use Rattle.walk_law.proofs.WorkedValley as valley
-use Rattle.walk_law.proofs.WorkedSlope as slope
-use Rattle.walk_law.proofs.answers.worked_programs_have_their_answers.Goals as goal
-
-pub returns : goal.returns
-returns c = record { hill = hill.answer; portfolio = portfolio.answer; valley = valley.answer; slope = slope.answer }

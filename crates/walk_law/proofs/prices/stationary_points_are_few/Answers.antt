@@ -1,5 +1,0 @@
-use Rattle.walk_law.proofs.Few.{stationary_few}
-use Rattle.walk_law.proofs.prices.stationary_points_are_few.Goals as goal
-
-pub returns : goal.returns
-returns c = record { few = stationary_few }
