@@ -60,10 +60,10 @@ point_begins p squares bases boxes root x d is sum h marked uncrossed falling = 
   best = no_incumbent p;
 }
 
-root_region : (p : Program) (root : Trail) → IsRoot p root → root.region ≡ region_of p root.turns
+root_region : (p : Program) (root : Trail) → IsRoot p root → root.walk.region ≡ region_of p root.turns
 root_region p root h = h.trail.region ∙ ap (region_of p) (root_path root h.first)
 
-root_left : (root : Trail) → root.steps.items ≡ [] → paths_left true root ≡ root.turns ∷ []
+root_left : (root : Trail) → root.walk.before ≡ [] → paths_left true root ≡ root.turns ∷ []
 root_left root none = ap₂ (λ (w : List Turn) (ws : List (List Turn)). w ∷ ws) (root_path root none) (root_waiting root none)
 
 starts : (aim : Search) (p : Program) (bases boxes : ℕ) (root : Trail) (progress : Progress) → IsRoot p root → progress.nodes ≡ nodes_before root.turns → progress.trail ≡ root
@@ -87,7 +87,7 @@ best_starts p squares bases boxes root progress is sum h nodes trail none no_one
     starts ForBest p bases boxes root progress h nodes trail none no_one (best_begins p squares bases boxes root is sum h)
 
 pub point_starts : (p : Program) (squares : List Square) (bases boxes : ℕ) (root : Trail) (progress : Progress) (x d : List ℚ) → IsProgram p → AreSquaresFor p squares → IsRoot p root → IsMarked p
-    → (IsCrossedRegion root.region → ⊥) → IsFalling p root.region bases x d
+    → (IsCrossedRegion root.walk.region → ⊥) → IsFalling p root.walk.region bases x d
     → progress.nodes ≡ nodes_before root.turns → progress.trail ≡ root → progress.branches ≡ 0 → progress.incumbent ≡ None → IsOnWay ForPoint p bases boxes true progress
 point_starts p squares bases boxes root progress x d is sum h marked uncrossed falling nodes trail none no_one =
     starts ForPoint p bases boxes root progress h nodes trail none no_one
@@ -195,10 +195,10 @@ no_turns : (p : Program) (turns : List Turn) → IsRounding p turns → (IsMarke
 no_turns p [] h unmarked = refl
 no_turns p (t ∷ turns) h unmarked = absurd (unmarked (t.column, h.turns_due.0.first.holds.marked))
 
-pub unmarked_found : (p : Program) (bases boxes : ℕ) (squares : List Square) (root : Trail) (x d : List ℚ) → IsRoot p root → (IsMarked p → ⊥) → (IsCrossedRegion root.region → ⊥) → IsFalling p root.region bases x d
+pub unmarked_found : (p : Program) (bases boxes : ℕ) (squares : List Square) (root : Trail) (x d : List ℚ) → IsRoot p root → (IsMarked p → ⊥) → (IsCrossedRegion root.walk.region → ⊥) → IsFalling p root.walk.region bases x d
     → IsFoundOf p (Convex squares) bases boxes (Unbounded x d squares)
 unmarked_found p bases boxes squares root x d h unmarked uncrossed falling =
-    let region : root.region ≡ bounds p = root_region p root h ∙ ap (region_of p) (no_turns p root.turns h.rounding unmarked) in
+    let region : root.walk.region ≡ bounds p = root_region p root h ∙ ap (region_of p) (no_turns p root.turns h.rounding unmarked) in
     inl (record {
       unmarked = unmarked;
       uncrossed = subst (λ (r : Region). IsCrossedRegion r → ⊥) region uncrossed;
@@ -208,7 +208,7 @@ unmarked_found p bases boxes squares root x d h unmarked uncrossed falling =
       certificate = refl;
     })
 
-pub ended_found : (p : Program) (bases boxes : ℕ) (squares : List Square) (root : Trail) (progress : Progress) (start x d : List ℚ) → IsRoot p root → IsFalling p root.region bases start d
+pub ended_found : (p : Program) (bases boxes : ℕ) (squares : List Square) (root : Trail) (progress : Progress) (start x d : List ℚ) → IsRoot p root → IsFalling p root.walk.region bases start d
     → IsEndedBy p bases boxes x progress → IsFoundOf p (Convex squares) bases boxes (Unbounded x d squares)
 ended_found p bases boxes squares root progress start x d h falling e =
     let searching = e.way.searching in

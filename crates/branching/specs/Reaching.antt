@@ -25,8 +25,8 @@ pub record IsPathOf (aim : Search) (p : Program) (bases boxes : ℕ) (path : Lis
 -- a point that keeps the marks, at the path at hand
 pub record IsEndedBy (p : Program) (bases boxes : ℕ) (x : List ℚ) (progress : Progress) : Type 0 where
   pub way : IsOnWay ForPoint p bases boxes true progress
-  pub uncrossed : IsCrossedRegion progress.trail.region → ⊥
-  pub found : IsFound p progress.trail.region bases x
+  pub uncrossed : IsCrossedRegion progress.trail.walk.region → ⊥
+  pub found : IsFound p progress.trail.walk.region bases x
   pub whole : AreWholeOn (marks p) x
   pub size : length x ≡ length p.columns
 

@@ -34,11 +34,11 @@ pub fn relaxed(
     requires squares { AreSquaresOf p.now.pairs squares.now }
     requires trail { IsTrail p.now trail.now }
     requires path { IsPathOf ForBest p.now limits.bases limits.boxes (path_of trail.now) }
-    ensures answer { IfOk result (IsRelaxedOf p.now trail.now.region limits.bases) }
+    ensures answer { IfOk result (IsRelaxedOf p.now trail.now.walk.region limits.bases) }
     ensures lengths { IfOk result (HasLengths p.now) }
     ensures stop { IfErr result (IsStopOf p.now limits.bases limits.boxes) }
 {
-    match relax(alloc, p, &trail.region, squares, limits.bases) {
+    match relax(alloc, p, trail.walk.region(), squares, limits.bases) {
         Ok(answer) => Ok(answer),
         Err(stop) => Err(stop_on(trail.path(alloc)?, stop)),
     }
@@ -55,8 +55,8 @@ fn point_taken(
     progress: &mut Progress,
 ) -> Result<bool, DecideStop>
     requires way { IsOnWay ForBest p.now limits.bases limits.boxes true progress.old }
-    requires uncrossed { IsCrossedRegion progress.old.trail.region → ⊥ }
-    requires best { IsBest p.now progress.old.trail.region limits.bases x value y }
+    requires uncrossed { IsCrossedRegion progress.old.trail.walk.region → ⊥ }
+    requires best { IsBest p.now progress.old.trail.walk.region limits.bases x value y }
     requires length { length x ≡ length p.now.columns }
     ensures way { IfOk result (λ more. HasBegun p.now limits.bases limits.boxes more progress.new) }
     ensures work { IfOk result (λ more. more ≡ true → work_left limits.boxes progress.new < work_left limits.boxes progress.old) }
@@ -85,7 +85,7 @@ fn taken(
     progress: &mut Progress,
 ) -> Result<bool, DecideStop>
     requires way { IsOnWay ForBest p.now limits.bases limits.boxes true progress.old }
-    requires answer { IsRelaxedOf p.now progress.old.trail.region limits.bases answer }
+    requires answer { IsRelaxedOf p.now progress.old.trail.walk.region limits.bases answer }
     requires lengths { HasLengths p.now answer }
     requires no_ray { IsNoRay answer }
     ensures way { IfOk result (λ more. HasBegun p.now limits.bases limits.boxes more progress.new) }
@@ -111,7 +111,7 @@ pub fn best_searched(
 ) -> Result<(), DecideStop>
     requires squares { AreSquaresOf p.now.pairs squares.now }
     requires way { IsOnWay ForBest p.now limits.bases limits.boxes true progress.old }
-    requires answer { IsRelaxedOf p.now progress.old.trail.region limits.bases root }
+    requires answer { IsRelaxedOf p.now progress.old.trail.walk.region limits.bases root }
     requires lengths { HasLengths p.now root }
     requires no_ray { IsNoRay root }
     ensures way { OnOk result (IsOnWay ForBest p.now limits.bases limits.boxes false progress.new) }

@@ -65,7 +65,7 @@ fn by_best(
     requires squares { AreSquaresFor p.now squares }
     requires boxes { limits.boxes ≤ 20000 }
     requires root { IsRoot p.now root }
-    requires answer { IsRelaxedOf p.now root.region limits.bases answer }
+    requires answer { IsRelaxedOf p.now root.walk.region limits.bases answer }
     requires lengths { HasLengths p.now answer }
     requires no_ray { IsNoRay answer }
     ensures found { IfOk result (IsFoundOf p.now (Convex squares) limits.bases limits.boxes) }
@@ -92,8 +92,8 @@ fn by_point(
     requires boxes { limits.boxes ≤ 20000 }
     requires root { IsRoot p.now root }
     requires marked { IsMarked p.now }
-    requires uncrossed { IsCrossedRegion root.region → ⊥ }
-    requires falling { IsFalling p.now root.region limits.bases x d }
+    requires uncrossed { IsCrossedRegion root.walk.region → ⊥ }
+    requires falling { IsFalling p.now root.walk.region limits.bases x d }
     requires lengths { IsColumnVector p.now x × IsColumnVector p.now d }
     ensures found { IfOk result (IsFoundOf p.now (Convex squares) limits.bases limits.boxes) }
     ensures writable { IfOk result (IsWritable p.now) }

@@ -47,11 +47,11 @@ fn pointed(
 ) -> Result<AnyPoint, DecideStop>
     requires trail { IsTrail p.now trail.now }
     requires path { IsPathOf ForPoint p.now limits.bases limits.boxes (path_of trail.now) }
-    ensures answer { IfOk result (IsAnyPointOf p.now trail.now.region limits.bases) }
+    ensures answer { IfOk result (IsAnyPointOf p.now trail.now.walk.region limits.bases) }
     ensures sizes { IfOk result (HasSizes p.now) }
     ensures stop { IfErr result (IsStopOf p.now limits.bases limits.boxes) }
 {
-    match any_point(alloc, p, &trail.region, limits.bases) {
+    match any_point(alloc, p, trail.walk.region(), limits.bases) {
         Ok(answer) => Ok(answer),
         Err(stop) => Err(stop_on(trail.path(alloc)?, stop)),
     }
@@ -65,8 +65,8 @@ fn point_taken(
     progress: &mut Progress,
 ) -> Result<Outcome, DecideStop>
     requires way { IsOnWay ForPoint p.now limits.bases limits.boxes true progress.old }
-    requires uncrossed { IsCrossedRegion progress.old.trail.region → ⊥ }
-    requires found { IsFound p.now progress.old.trail.region limits.bases x }
+    requires uncrossed { IsCrossedRegion progress.old.trail.walk.region → ⊥ }
+    requires found { IsFound p.now progress.old.trail.walk.region limits.bases x }
     requires length { length x ≡ length p.now.columns }
     ensures taken { IfOk result (IsTakenTo p.now limits.bases limits.boxes progress.old progress.new) }
     ensures stop { IfErr result (IsStopOf p.now limits.bases limits.boxes) }
@@ -89,7 +89,7 @@ fn taken(
     progress: &mut Progress,
 ) -> Result<Outcome, DecideStop>
     requires way { IsOnWay ForPoint p.now limits.bases limits.boxes true progress.old }
-    requires answer { IsAnyPointOf p.now progress.old.trail.region limits.bases answer }
+    requires answer { IsAnyPointOf p.now progress.old.trail.walk.region limits.bases answer }
     requires sizes { HasSizes p.now answer }
     ensures taken { IfOk result (IsTakenTo p.now limits.bases limits.boxes progress.old progress.new) }
     ensures stop { IfErr result (IsStopOf p.now limits.bases limits.boxes) }
@@ -110,8 +110,8 @@ pub fn point_searched(
     progress: &mut Progress,
 ) -> Result<Option<Vector<Frac>>, DecideStop>
     requires way { IsOnWay ForPoint p.now limits.bases limits.boxes true progress.old }
-    requires uncrossed { IsCrossedRegion progress.old.trail.region → ⊥ }
-    requires found { IsFound p.now progress.old.trail.region limits.bases root }
+    requires uncrossed { IsCrossedRegion progress.old.trail.walk.region → ⊥ }
+    requires found { IsFound p.now progress.old.trail.walk.region limits.bases root }
     requires length { length root ≡ length p.now.columns }
     ensures ends { IfOk result (λ found. EndsIn p.now limits.bases limits.boxes found progress.new) }
     ensures stop { IfErr result (IsStopOf p.now limits.bases limits.boxes) }

@@ -29,14 +29,14 @@ use Rattle.search_steps.proofs.Grown.{closed_way, branched_way, first_and_others
 -- ---- leaves without a point
 
 module _ (aim : Search) (p : Program) (bases boxes : ℕ) (old new : Progress) (h : IsOnWay aim p bases boxes true old) (more : Bool) (trail : more ≡ true → IsTrail p new.trail) where
-  pub crossed_way : (j : ℕ) → first_crossed old.trail.region ≡ Some j → IsClosed old (Cross j) more new
+  pub crossed_way : (j : ℕ) → first_crossed old.trail.walk.region ≡ Some j → IsClosed old (Cross j) more new
       → (way : IsOnWay aim p bases boxes more new) × (way.nodes ≡ h.nodes ++ Cross j ∷ [])
   crossed_way j first c =
       closed_way aim p bases boxes old new h old.incumbent (Cross j) more c trail h.value tt refl
       (close_crossed aim p bases boxes old.trail.turns h.nodes (path_of old.trail) (waiting_of old.trail) (point_of old.incumbent) h.searching j
       (first_tested (region_of p (path_of old.trail)) j (subst (λ (r : Region). first_crossed r ≡ Some j) (h.trail refl).region first)))
 
-  pub empty_way : (y : List ℚ) → (IsCrossedRegion old.trail.region → ⊥) → IsEmpty p old.trail.region bases y → IsClosed old (Farkas y) more new
+  pub empty_way : (y : List ℚ) → (IsCrossedRegion old.trail.walk.region → ⊥) → IsEmpty p old.trail.walk.region bases y → IsClosed old (Farkas y) more new
       → (way : IsOnWay aim p bases boxes more new) × (way.nodes ≡ h.nodes ++ Farkas y ∷ [])
   empty_way y uncrossed empty c =
       closed_way aim p bases boxes old new h old.incumbent (Farkas y) more c trail h.value tt refl
@@ -51,14 +51,14 @@ begun p bases boxes more new ns n w =
     record { way = w.0; first = f.0; others = f.1; taken = w.1 ∙ f.2 }
 
 module _ (p : Program) (bases boxes : ℕ) (old new : Progress) (h : IsOnWay ForBest p bases boxes true old) (more : Bool) (trail : more ≡ true → IsTrail p new.trail) where
-  pub crossed_begun : (j : ℕ) → first_crossed old.trail.region ≡ Some j → IsClosed old (Cross j) more new → HasBegun p bases boxes more new
+  pub crossed_begun : (j : ℕ) → first_crossed old.trail.walk.region ≡ Some j → IsClosed old (Cross j) more new → HasBegun p bases boxes more new
   crossed_begun j first c = begun p bases boxes more new h.nodes (Cross j) (crossed_way ForBest p bases boxes old new h more trail j first c)
 
-  pub empty_begun : (y : List ℚ) → (IsCrossedRegion old.trail.region → ⊥) → IsEmpty p old.trail.region bases y → IsClosed old (Farkas y) more new → HasBegun p bases boxes more new
+  pub empty_begun : (y : List ℚ) → (IsCrossedRegion old.trail.walk.region → ⊥) → IsEmpty p old.trail.walk.region bases y → IsClosed old (Farkas y) more new → HasBegun p bases boxes more new
   empty_begun y uncrossed empty c = begun p bases boxes more new h.nodes (Farkas y) (empty_way ForBest p bases boxes old new h more trail y uncrossed empty c)
 
-module _ (p : Program) (bases boxes : ℕ) (old : Progress) (h : IsOnWay ForBest p bases boxes true old) (x : List ℚ) (v : ℚ) (y : List ℚ) (uncrossed : IsCrossedRegion old.trail.region → ⊥)
-    (best : IsBest p old.trail.region bases x v y) where
+module _ (p : Program) (bases boxes : ℕ) (old : Progress) (h : IsOnWay ForBest p bases boxes true old) (x : List ℚ) (v : ℚ) (y : List ℚ) (uncrossed : IsCrossedRegion old.trail.walk.region → ⊥)
+    (best : IsBest p old.trail.walk.region bases x v y) where
   here : IsCrossedRegion (region_of p (path_of old.trail)) → ⊥
   here = subst (λ (r : Region). IsCrossedRegion r → ⊥) (h.trail refl).region uncrossed
 
@@ -99,8 +99,8 @@ module _ (p : Program) (bases boxes : ℕ) (old : Progress) (h : IsOnWay ForBest
 
 -- ---- a search for a point
 
-module _ (p : Program) (bases boxes : ℕ) (old : Progress) (h : IsOnWay ForPoint p bases boxes true old) (x : List ℚ) (uncrossed : IsCrossedRegion old.trail.region → ⊥)
-    (found : IsFound p old.trail.region bases x) where
+module _ (p : Program) (bases boxes : ℕ) (old : Progress) (h : IsOnWay ForPoint p bases boxes true old) (x : List ℚ) (uncrossed : IsCrossedRegion old.trail.walk.region → ⊥)
+    (found : IsFound p old.trail.walk.region bases x) where
   point_here : IsCrossedRegion (region_of p (path_of old.trail)) → ⊥
   point_here = subst (λ (r : Region). IsCrossedRegion r → ⊥) (h.trail refl).region uncrossed
 
@@ -136,7 +136,7 @@ fewer aim p bases boxes old h other =
 pub fewer_taken : (aim : Search) (p : Program) (bases boxes : ℕ) (old : Progress) (h : IsOnWay aim p bases boxes true old) → (old.branches ≡ boxes → ⊥) → old.branches < boxes
 fewer_taken aim p bases boxes old h other = let l = fewer aim p bases boxes old h other in let e = h.count in omega (arith, l, e)
 
-pub column_at_hand : (aim : Search) (p : Program) (bases boxes : ℕ) (old : Progress) (h : IsOnWay aim p bases boxes true old) (j : ℕ) → j < length p.columns → j < length old.trail.region
+pub column_at_hand : (aim : Search) (p : Program) (bases boxes : ℕ) (old : Progress) (h : IsOnWay aim p bases boxes true old) (j : ℕ) → j < length p.columns → j < length old.trail.walk.region
 column_at_hand aim p bases boxes old h j l =
-    let e : length old.trail.region ≡ length p.columns = ap (λ (r : Region). length r) (h.trail refl).region ∙ wide p (path_of old.trail) in
+    let e : length old.trail.walk.region ≡ length p.columns = ap (λ (r : Region). length r) (h.trail refl).region ∙ wide p (path_of old.trail) in
     subst (λ (n : ℕ). j < n) (sym e) l

@@ -1,126 +1,118 @@
 -- Trails: where their steps lead, and how they come back.
-use Rattle.std.specs.Prelude.{◌≡◌, ℕ, zero, suc, ◌<◌, ◌≤◌, ℤ, pos, ◌+ℤ◌, reverse, List, [], ◌∷◌, ◌++◌, length, slice_set, unsigned_abs}
-use Rattle.std.proofs.Common.{refl, sym, ◌∙◌, ap, ap₂, subst, arith}
-use Rattle.std.proofs.Math.ListN.{length-set}
-use Rattle.std.proofs.lemmas.List.{reverse-append}
+use Rattle.std.specs.Prelude.{◌≡◌, ℕ, ◌≤◌, ℤ, pos, ◌+ℤ◌, reverse, List, [], ◌∷◌, ◌++◌, map, take, length, slice_get, Some, unsigned_abs}
+use Rattle.std.proofs.Common.{◌+◌, sym, ◌∙◌, ap, ap₂, subst, arith, append_assoc, append-nil}
+use Rattle.std.proofs.lemmas.List.{map_push, reverse-append, length-reverse, length-map, take_more, take_all}
+use Rattle.std.proofs.lemmas.Option.{get_or_from_slice_get, slice_get_within}
 use Rattle.frac_core.specs.Parts.{max_part}
 use Rattle.rational.specs.Rational.{whole}
-use Rattle.program_law.specs.declared.Row.{Row}
 use Rattle.program_law.specs.Region.{Region, cut_high, cut_low}
 use Rattle.program_law.specs.Program.{Program, bounds}
-use Rattle.cert_check_law.specs.Tree.{bounds_at}
+use Rattle.program_model.specs.declared.descents.Cut as cuts
+use Rattle.program_model.specs.Descents.{cuts_of}
 use Rattle.branching_law.specs.declared.Cut.{Cut}
-use Rattle.branching_law.specs.declared.Cut.TheVariants.{Below, Above}
+use Rattle.branching_law.specs.declared.Cut.TheVariants.{Above}
 use Rattle.branching_law.specs.declared.Turn.{Turn}
-use Rattle.branching_law.specs.Paths.{half_of, region_of, below, above}
+use Rattle.branching_law.specs.Paths.{region_of, below, above}
 use Rattle.branching_law.proofs.PathRegions.{behind_last}
-use Rattle.branching_law.proofs.Trees.{wide}
-use Rattle.search_steps.specs.declared.trails.Step.{Step}
 use Rattle.search_steps.specs.declared.trails.Trail.{Trail}
-use Rattle.search_steps.specs.Trails.{path_by, waiting_by, with_other, path_of, waiting_of, IsStepFrom, AreSteps, IsTrail, GoesBelow}
+use Rattle.search_steps.specs.Trails.{Step, path_by, waiting_by, with_other, path_of, waiting_of, IsStepFrom, AreSteps, IsTrail, GoesBelow}
 
-pub reverse_last : (xs : List Step) (x : Step) → reverse (xs ++ x ∷ []) ≡ x ∷ reverse xs
-reverse_last xs x = reverse-append xs (x ∷ [])
+-- ---- the path, from the root on
 
--- the bounds before a cut give the region back
-back_half : (c : Cut) (r : Region) (j : ℕ) (k : ℤ) → j < length r → slice_set (half_of c r j k) j (bounds_at r j) ≡ r
-back_half c [] j k h = absurd (omega (arith, h))
-back_half Below (b ∷ bs) zero k h = refl
-back_half Above (b ∷ bs) zero k h = refl
-back_half Below (b ∷ bs) (suc j) k h = ap (λ (rs : Region). b ∷ rs) (back_half Below bs j k (omega (arith, h)))
-back_half Above (b ∷ bs) (suc j) k h = ap (λ (rs : Region). b ∷ rs) (back_half Above bs j k (omega (arith, h)))
+reverse_first : {A : Type 0} (x : A) (xs : List A) → reverse (x ∷ xs) ≡ reverse xs ++ x ∷ []
+reverse_first x xs = reverse-append (x ∷ []) xs
+
+abbrev note_of : cuts.Cut Turn → Turn
+note_of c = c.note
+
+path_is : (root : List Turn) (steps : List Step) → root ++ map note_of (cuts_of steps) ≡ path_by root steps
+path_is root [] = append-nil root
+path_is root (s ∷ steps) =
+    ap (λ (cs : List (cuts.Cut Turn)). root ++ map note_of cs) (reverse_first s.0 (map (λ (s : Step). s.0) steps))
+    ∙ ap (λ (ts : List Turn). root ++ ts) (map_push note_of (cuts_of steps) s.0)
+    ∙ sym (append_assoc root (map note_of (cuts_of steps)) (s.0.note ∷ []))
+    ∙ ap (λ (ts : List Turn). ts ++ s.0.note ∷ []) (path_is root steps)
+
+pub path_more : (root path new : List Turn) (cs : List (cuts.Cut Turn)) (i : ℕ) (c : cuts.Cut Turn) → slice_get cs i ≡ Some c → path ≡ root ++ map note_of (take i cs) → new ≡ path ++ c.note ∷ []
+    → new ≡ root ++ map note_of (take (i + 1) cs)
+path_more root path new cs i c there so is =
+    let e : take (i + 1) cs ≡ take i cs ++ c ∷ [] =
+    take_more cs i c (slice_get_within cs i c there) ∙ ap (λ (d : cuts.Cut Turn). take i cs ++ d ∷ []) (get_or_from_slice_get cs i c c there) in
+    is ∙ ap (λ (ts : List Turn). ts ++ c.note ∷ []) so ∙ append_assoc root (map note_of (take i cs)) (c.note ∷ [])
+    ∙ ap (λ (ts : List Turn). root ++ ts) (sym (ap (λ (l : List (cuts.Cut Turn)). map note_of l) e ∙ map_push note_of (take i cs) c))
+
+pub path_all : (root path : List Turn) (steps : List Step) (i : ℕ) → length steps ≤ i → path ≡ root ++ map note_of (take i (cuts_of steps)) → path ≡ path_by root steps
+path_all root path steps i h so =
+    let size : length (cuts_of steps) ≡ length steps = length-reverse (map (λ (s : Step). s.0) steps) ∙ length-map steps (λ (s : Step). s.0) in
+    so ∙ ap (λ (l : List (cuts.Cut Turn)). root ++ map note_of l) (take_all i (cuts_of steps) (omega (arith, h, size))) ∙ path_is root steps
 
 -- ---- on to a lower side
 
-pub goes_below : (old new : Trail) (j : ℕ) (k : ℤ) (s : Step) → new.turns ≡ old.turns → reverse new.steps.items ≡ s ∷ reverse old.steps.items → s.turn ≡ below j k
-    → GoesBelow old j k new
+pub goes_below : (old new : Trail) (j : ℕ) (k : ℤ) (s : Step) → new.turns ≡ old.turns → new.walk.before ≡ s ∷ old.walk.before → s.0.note ≡ below j k → GoesBelow old j k new
 goes_below old new j k s turns steps turn = record {
   turns = turns;
   path = ap₂ path_by turns steps ∙ ap (λ (t : Turn). path_of old ++ t ∷ []) turn;
   waiting = ap₂ waiting_by turns steps ∙ ap (λ (t : Turn). with_other t.cut (path_of old) t.column t.k (waiting_of old)) turn;
 }
 
-steps_of : (p : Program) (old new : Trail) (s : Step) → new.turns ≡ old.turns → reverse new.steps.items ≡ s ∷ reverse old.steps.items → IsStepFrom p (path_of old) s → AreSteps p old.turns (reverse old.steps.items)
-    → AreSteps p new.turns (reverse new.steps.items)
-steps_of p old new s turns steps one others =
-    subst (λ (ts : List Turn). AreSteps p ts (reverse new.steps.items)) (sym turns) (subst (λ (ss : List Step). AreSteps p old.turns ss) (sym steps) (one, others))
+steps_of : (p : Program) (old new : Trail) (rest : List Step) (s : Step) → new.turns ≡ old.turns → new.walk.before ≡ s ∷ rest → IsStepFrom p (path_by old.turns rest) s → AreSteps p old.turns rest
+    → AreSteps p new.turns new.walk.before
+steps_of p old new rest s turns steps one others =
+    subst (λ (ts : List Turn). AreSteps p ts new.walk.before) (sym turns) (subst (λ (ss : List Step). AreSteps p old.turns ss) (sym steps) (one, others))
 
-pub below_trail : (p : Program) (old new : Trail) (j : ℕ) (k : ℤ) (s : Step) → IsTrail p old → new.turns ≡ old.turns → reverse new.steps.items ≡ s ∷ reverse old.steps.items → s.turn ≡ below j k
-    → s.before ≡ bounds_at old.region j → new.region ≡ cut_high old.region j (whole k) → j < length old.region → unsigned_abs (k +ℤ pos 1) ≤ max_part → IsTrail p new
-below_trail p old new j k s trail turns steps turn before region column next =
-    let size : length old.region ≡ length p.columns = ap (λ (r : Region). length r) trail.region ∙ wide p (path_of old) in
-    let within : j < length p.columns = subst (λ (n : ℕ). j < n) size column in
-    let one : IsStepFrom p (path_of old) s = record {
-      column = subst (λ (t : Turn). t.column < length p.columns) (sym turn) within;
-      before = before ∙ ap (λ (r : Region). bounds_at r j) trail.region ∙ sym (ap (λ (t : Turn). bounds_at (region_of p (path_of old)) t.column) turn);
-      next = subst (λ (t : Turn). unsigned_abs (t.k +ℤ pos 1) ≤ max_part) (sym turn) next;
-    } in
+pub below_trail : (p : Program) (old new : Trail) (j : ℕ) (k : ℤ) (t : Turn) → IsTrail p old → new.turns ≡ old.turns
+    → new.walk.before ≡ (record { column = j; note = t }, old.walk.region) ∷ old.walk.before → t ≡ below j k → new.walk.region ≡ cut_high old.walk.region j (whole k)
+    → unsigned_abs (t.k +ℤ pos 1) ≤ max_part → IsTrail p new
+below_trail p old new j k t trail turns steps turn region next =
+    let one : IsStepFrom p (path_of old) (record { column = j; note = t }, old.walk.region) = record { region = trail.region; column = ap (λ (t : Turn). t.column) turn; next = next } in
     record {
       region = region ∙ ap (λ (r : Region). cut_high r j (whole k)) trail.region ∙ sym (behind_last (bounds p) (path_of old) (below j k))
-          ∙ sym (ap (λ (path : List Turn). region_of p path) (goes_below old new j k s turns steps turn).path);
-      steps = steps_of p old new s turns steps one trail.steps;
+          ∙ sym (ap (λ (path : List Turn). region_of p path) (goes_below old new j k (record { column = j; note = t }, old.walk.region) turns steps turn).path);
+      steps = steps_of p old new old.walk.before (record { column = j; note = t }, old.walk.region) turns steps one trail.steps;
     }
 
 -- ---- back, and over to the other side
 
-module _ (p : Program) (t : Trail) (s : Step) (rest : List Step) (steps : reverse t.steps.items ≡ s ∷ rest) (trail : IsTrail p t) where
-  last_step : IsStepFrom p (path_by t.turns rest) s × AreSteps p t.turns rest
+module _ (p : Program) (t u : Trail) (c : cuts.Cut Turn) (steps : t.walk.before ≡ (c, u.walk.region) ∷ u.walk.before) (trail : IsTrail p t) where
+  last_step : IsStepFrom p (path_by t.turns u.walk.before) (c, u.walk.region) × AreSteps p t.turns u.walk.before
   last_step = subst (λ (ss : List Step). AreSteps p t.turns ss) steps trail.steps
 
-  region_is : t.region ≡ half_of s.turn.cut (region_of p (path_by t.turns rest)) s.turn.column s.turn.k
-  region_is =
-      trail.region ∙ ap (λ (ss : List Step). region_of p (path_by t.turns ss)) steps ∙ behind_last (bounds p) (path_by t.turns rest) s.turn
-
-  pub column_within : s.turn.column < length t.region
-  column_within =
-      subst (λ (n : ℕ). s.turn.column < n) (sym (ap (λ (r : Region). length r) trail.region ∙ wide p (path_of t))) last_step.0.column
-
-  pub next_fits : unsigned_abs (s.turn.k +ℤ pos 1) ≤ max_part
+  pub next_fits : unsigned_abs (c.note.k +ℤ pos 1) ≤ max_part
   next_fits = last_step.0.next
 
-  pub undone : slice_set t.region s.turn.column s.before ≡ region_of p (path_by t.turns rest)
-  undone =
-      ap₂ (λ (r : Region) (b : Row). slice_set r s.turn.column b) region_is last_step.0.before
-      ∙ back_half s.turn.cut (region_of p (path_by t.turns rest)) s.turn.column s.turn.k
-      (subst (λ (n : ℕ). s.turn.column < n) (sym (wide p (path_by t.turns rest))) last_step.0.column)
+  pub undone_trail : u.turns ≡ t.turns → IsTrail p u
+  undone_trail turns = record {
+    region = last_step.0.region ∙ ap (λ (ts : List Turn). region_of p (path_by ts u.walk.before)) (sym turns);
+    steps = subst (λ (ts : List Turn). AreSteps p ts u.walk.before) (sym turns) last_step.1;
+  }
 
-pub undone_trail : (p : Program) (t u : Trail) (s : Step) → reverse t.steps.items ≡ s ∷ reverse u.steps.items → u.turns ≡ t.turns → u.region ≡ slice_set t.region s.turn.column s.before
-    → IsTrail p t → IsTrail p u
-undone_trail p t u s steps turns region trail = record {
-  region = region ∙ undone p t s (reverse u.steps.items) steps trail
-      ∙ ap (λ (ts : List Turn). region_of p (path_by ts (reverse u.steps.items))) (sym turns);
-  steps = subst (λ (ts : List Turn). AreSteps p ts (reverse u.steps.items)) (sym turns) (last_step p t s (reverse u.steps.items) steps trail).1;
-}
+  pub turned_trail : (v : Trail) (note : Turn) → v.turns ≡ t.turns → note ≡ above c.note.column c.note.k → v.walk.before ≡ (record { column = c.column; note = note }, u.walk.region) ∷ u.walk.before
+      → v.walk.region ≡ cut_low u.walk.region c.column (whole (c.note.k +ℤ pos 1)) → IsTrail p v
+  turned_trail v note turns turn before region =
+      let column = last_step.0.column in
+      let one : IsStepFrom p (path_by t.turns u.walk.before) (record { column = c.column; note = note }, u.walk.region) = record {
+        region = last_step.0.region;
+        column = ap (λ (t : Turn). t.column) turn ∙ column;
+        next = subst (λ (t : Turn). unsigned_abs (t.k +ℤ pos 1) ≤ max_part) (sym turn) last_step.0.next;
+      } in
+      record {
+        region = region ∙ ap₂ (λ (r : Region) (j : ℕ). cut_low r j (whole (c.note.k +ℤ pos 1))) last_step.0.region (sym column)
+            ∙ sym (behind_last (bounds p) (path_by t.turns u.walk.before) (above c.note.column c.note.k))
+            ∙ ap (λ (t' : Turn). region_of p (path_by t.turns u.walk.before ++ t' ∷ [])) (sym turn)
+            ∙ sym (ap₂ (λ (ts : List Turn) (ss : List Step). region_of p (path_by ts ss)) turns before);
+        steps = steps_of p t v u.walk.before (record { column = c.column; note = note }, u.walk.region) turns before one last_step.1;
+      }
 
-pub undone_waiting : (t u : Trail) (s : Step) → reverse t.steps.items ≡ s ∷ reverse u.steps.items → u.turns ≡ t.turns → s.turn.cut ≡ Above → waiting_of u ≡ waiting_of t
-undone_waiting t u s steps turns cut =
-    ap (λ (ts : List Turn). waiting_by ts (reverse u.steps.items)) turns
+pub undone_waiting : (t u : Trail) (c : cuts.Cut Turn) → t.walk.before ≡ (c, u.walk.region) ∷ u.walk.before → u.turns ≡ t.turns → c.note.cut ≡ Above → waiting_of u ≡ waiting_of t
+undone_waiting t u c steps turns cut =
+    ap (λ (ts : List Turn). waiting_by ts u.walk.before) turns
     ∙ sym (ap (λ (ss : List Step). waiting_by t.turns ss) steps
-    ∙ ap (λ (c : Cut). with_other c (path_by t.turns (reverse u.steps.items)) s.turn.column s.turn.k (waiting_by t.turns (reverse u.steps.items))) cut)
-
-abbrev other : Step → Step
-other s = record { turn = above s.turn.column s.turn.k; before = s.before }
-
-pub turned_trail : (p : Program) (t u : Trail) (s : Step) (rest : List Step) → reverse t.steps.items ≡ s ∷ rest → u.turns ≡ t.turns → reverse u.steps.items ≡ other s ∷ rest
-    → u.region ≡ cut_low (slice_set t.region s.turn.column s.before) s.turn.column (whole (s.turn.k +ℤ pos 1)) → IsTrail p t → IsTrail p u
-turned_trail p t u s rest steps turns turned region trail =
-    let last = last_step p t s rest steps trail in
-    let one : IsStepFrom p (path_by t.turns rest) (other s) = record { column = last.0.column; before = last.0.before; next = last.0.next } in
-    record {
-      region = region ∙ ap (λ (r : Region). cut_low r s.turn.column (whole (s.turn.k +ℤ pos 1))) (undone p t s rest steps trail)
-          ∙ sym (behind_last (bounds p) (path_by t.turns rest) (above s.turn.column s.turn.k))
-          ∙ sym (ap₂ (λ (ts : List Turn) (ss : List Step). region_of p (path_by ts ss)) turns turned);
-      steps = subst (λ (ts : List Turn). AreSteps p ts (reverse u.steps.items)) (sym turns)
-          (subst (λ (ss : List Step). AreSteps p t.turns ss) (sym turned) (one, last.1));
-    }
-
-pub within_set : (r new : Region) (j : ℕ) (b : Row) → new ≡ slice_set r j b → j < length r → j < length new
-within_set r new j b e h = omega (arith, h, ap (λ (s : Region). length s) e, length-set r j b)
+    ∙ ap (λ (c' : Cut). with_other c' (path_by t.turns u.walk.before) c.note.column c.note.k (waiting_by t.turns u.walk.before)) cut)
 
 -- ---- a root
 
-pub root_path : (trail : Trail) → trail.steps.items ≡ [] → path_of trail ≡ trail.turns
-root_path trail none = ap (λ (ss : List Step). path_by trail.turns (reverse ss)) none
+pub root_path : (trail : Trail) → trail.walk.before ≡ [] → path_of trail ≡ trail.turns
+root_path trail none = ap (λ (ss : List Step). path_by trail.turns ss) none
 
-pub root_waiting : (trail : Trail) → trail.steps.items ≡ [] → waiting_of trail ≡ []
-root_waiting trail none = ap (λ (ss : List Step). waiting_by trail.turns (reverse ss)) none
+pub root_waiting : (trail : Trail) → trail.walk.before ≡ [] → waiting_of trail ≡ []
+root_waiting trail none = ap (λ (ss : List Step). waiting_by trail.turns ss) none

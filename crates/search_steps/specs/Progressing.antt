@@ -56,6 +56,6 @@ pub record HasBegun (p : Program) (bases boxes : ℕ) (more : Bool) (progress : 
 -- a root: rounding has ended, and no step was taken
 pub record IsRoot (p : Program) (root : Trail) : Type 0 where
   pub rounding : IsRounding p root.turns
-  pub first : root.steps.items ≡ []
+  pub first : root.walk.before ≡ []
   pub trail : IsTrail p root
   pub numbers : AllByRecursion (λ (t : Turn). IsBranchNumber t.k) root.turns

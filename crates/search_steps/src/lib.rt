@@ -11,6 +11,6 @@ mod turns;
 pub use marks::{first_fractional, is_marked};
 pub use progress::{Incumbent, Progress, is_below};
 pub use rounding::rounded;
-pub use trails::{Path, Step, Trail};
+pub use trails::{Path, Trail};
 pub use trees::closed;
 pub use turns::no_turns;

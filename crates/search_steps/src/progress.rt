@@ -83,7 +83,7 @@ impl Progress {
     /// Puts the branch at a column and the floor of a number that isn't whole, and goes below.
     pub fn branch(&mut self, j: u32, x: Frac) -> Result<(), Memory>
         requires fractional { x.den ≡ 1 → ⊥ }
-        requires column { j < length self.old.trail.region }
+        requires column { j < length self.old.trail.walk.region }
         requires few { self.old.branches < u64.MAX }
         ensures branched { OnOk result (IsBranched self.old j (floor_of x) self.new) }
         ensures fits { unsigned_abs (floor_of x) ≤ max_part }

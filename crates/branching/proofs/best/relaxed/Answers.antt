@@ -9,9 +9,9 @@ use Rattle.branching.proofs.Halted.{best_stop}
 use Rattle.branching.proofs.best.relaxed.Goals as goal
 
 pub relax-requires-clause-region : goal.relax-requires-clause-region
-relax-requires-clause-region c = ap (λ (r : Region). length r) c.requires.trail.region ∙ wide c.args.p.now (path_of c.args.trail.now)
+relax-requires-clause-region c = ap (λ (r : Region). length r) (c.region.ensures ∙ c.requires.trail.region) ∙ wide c.args.p.now (path_of c.args.trail.now)
 
 pub returns-in_ok-path-in-Err-clause-stop : goal.returns-in_ok-path-in-Err-clause-stop
 returns-in_ok-path-in-Err-clause-stop c =
     subst (λ (s : DecideStop). IsStopOf c.args.p.now c.args.limits.bases c.args.limits.boxes s) (sym (c.stop_on.ensures ∙ ap (λ (w : List Turn). stop_on w c.in-Err.stop) c.in_ok-path-in-Err.ensures))
-    (best_stop c.args.p.now c.args.trail.now.region c.args.limits.bases c.args.limits.boxes (path_of c.args.trail.now) c.in-Err.stop c.requires.trail.region c.in-Err.ensures.not_crossed c.requires.path c.in-Err.ensures.stop)
+    (best_stop c.args.p.now c.region.result.now c.args.limits.bases c.args.limits.boxes (path_of c.args.trail.now) c.in-Err.stop (c.region.ensures ∙ c.requires.trail.region) c.in-Err.ensures.not_crossed c.requires.path c.in-Err.ensures.stop)

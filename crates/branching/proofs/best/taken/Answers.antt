@@ -13,13 +13,13 @@ close-requires-in-Empty c = (c.args.p.now, c.requires.way.trail refl)
 pub returns-in_ok-close-in-Crossed-clause-way : goal.returns-in_ok-close-in-Crossed-clause-way
 returns-in_ok-close-in-Crossed-clause-way c =
     let p = c.args.p.now in
-    let answer = subst (λ (a : Relaxed). IsRelaxedOf p c.args.progress.now.trail.region c.args.limits.bases a) c.in-Crossed.is c.requires.answer in
+    let answer = subst (λ (a : Relaxed). IsRelaxedOf p c.args.progress.now.trail.walk.region c.args.limits.bases a) c.in-Crossed.is c.requires.answer in
     crossed_begun p c.args.limits.bases c.args.limits.boxes c.args.progress.now c.close.new.self c.requires.way c.in_ok-close-in-Crossed.field-0
     (λ e. c.in_ok-close-in-Crossed.ensures.trail p (c.requires.way.trail refl) e) c.in-Crossed.j answer c.in_ok-close-in-Crossed.ensures.closed
 
 pub returns-in_ok-close-in-Empty-clause-way : goal.returns-in_ok-close-in-Empty-clause-way
 returns-in_ok-close-in-Empty-clause-way c =
     let p = c.args.p.now in
-    let answer = subst (λ (a : Relaxed). IsRelaxedOf p c.args.progress.now.trail.region c.args.limits.bases a) c.in-Empty.is c.requires.answer in
+    let answer = subst (λ (a : Relaxed). IsRelaxedOf p c.args.progress.now.trail.walk.region c.args.limits.bases a) c.in-Empty.is c.requires.answer in
     empty_begun p c.args.limits.bases c.args.limits.boxes c.args.progress.now c.close-in-Empty.new.self c.requires.way c.in_ok-close-in-Empty.field-0
     (λ e. c.in_ok-close-in-Empty.ensures.trail p (c.requires.way.trail refl) e) c.in-Empty.y answer.0 answer.1 c.in_ok-close-in-Empty.ensures.closed

@@ -8,7 +8,7 @@ use Rattle.branching.proofs.point.point_searched.Given as goal
 abbrev pub invariant-paths : goal.invariant-paths
 invariant-paths l = record {
   way : IsOnWay ForPoint l.p l.limits.bases l.limits.boxes true l.progress;
-  answer : IsAnyPointOf l.p l.progress.trail.region l.limits.bases l.answer;
+  answer : IsAnyPointOf l.p l.progress.trail.walk.region l.limits.bases l.answer;
   sizes : HasSizes l.p l.answer;
 }
 

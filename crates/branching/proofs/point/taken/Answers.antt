@@ -18,7 +18,7 @@ pub returns-in_ok-close-in-Crossed-clause-taken : goal.returns-in_ok-close-in-Cr
 returns-in_ok-close-in-Crossed-clause-taken c =
     let p = c.args.p.now in
     let more = c.in_ok-close-in-Crossed.field-0 in
-    let answer = subst (λ (a : AnyPoint). IsAnyPointOf p c.args.progress.now.trail.region c.args.limits.bases a) c.in-Crossed.is c.requires.answer in
+    let answer = subst (λ (a : AnyPoint). IsAnyPointOf p c.args.progress.now.trail.walk.region c.args.limits.bases a) c.in-Crossed.is c.requires.answer in
     taken_after p c.args.limits.bases c.args.limits.boxes c.args.progress.now c.close.new.self more c.after.result c.after.ensures
     (crossed_way ForPoint p c.args.limits.bases c.args.limits.boxes c.args.progress.now c.close.new.self c.requires.way more
     (λ e. c.in_ok-close-in-Crossed.ensures.trail p (c.requires.way.trail refl) e) c.in-Crossed.j answer c.in_ok-close-in-Crossed.ensures.closed).0
@@ -28,7 +28,7 @@ pub returns-in_ok-close-in-Empty-clause-taken : goal.returns-in_ok-close-in-Empt
 returns-in_ok-close-in-Empty-clause-taken c =
     let p = c.args.p.now in
     let more = c.in_ok-close-in-Empty.field-0 in
-    let answer = subst (λ (a : AnyPoint). IsAnyPointOf p c.args.progress.now.trail.region c.args.limits.bases a) c.in-Empty.is c.requires.answer in
+    let answer = subst (λ (a : AnyPoint). IsAnyPointOf p c.args.progress.now.trail.walk.region c.args.limits.bases a) c.in-Empty.is c.requires.answer in
     taken_after p c.args.limits.bases c.args.limits.boxes c.args.progress.now c.close-in-Empty.new.self more c.after-in-Empty.result c.after-in-Empty.ensures
     (empty_way ForPoint p c.args.limits.bases c.args.limits.boxes c.args.progress.now c.close-in-Empty.new.self c.requires.way more
     (λ e. c.in_ok-close-in-Empty.ensures.trail p (c.requires.way.trail refl) e) c.in-Empty.y answer.0 answer.1 c.in_ok-close-in-Empty.ensures.closed).0

@@ -1,8 +1,7 @@
-use Rattle.std.specs.Prelude.{reverse}
-use Rattle.std.proofs.Common.{◌≡◌, take}
-use Rattle.search_steps.specs.Trails.{path_by}
+use Rattle.std.proofs.Common.{◌≡◌, ◌++◌, map, take}
+use Rattle.program_model.specs.Descents.{cuts_of}
 use Rattle.search_steps.proofs.trails.Trail.path.Given as goal
 
--- the path of the steps so far
-abbrev pub invariant-loop-step : goal.invariant-loop-step
-invariant-loop-step l = l.path ≡ path_by l.self.turns (reverse (take l.step-index l.self.steps.items))
+-- the path of the cuts so far
+abbrev pub invariant-loop-i : goal.invariant-loop-i
+invariant-loop-i l = l.path ≡ l.self.turns ++ map (λ c. c.note) (take l.i (cuts_of l.self.walk.before))
