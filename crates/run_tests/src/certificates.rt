@@ -92,19 +92,38 @@ fn certificates_of_an_optimal_point(rt: HostRuntime) -> Result<(), Fail> {
         ),
         (
             "VALUE 8\n",
-            POINT,
-            SQUARES,
-            "BOUND\nW x 2\nW y 3\nY c2 -3\n",
-            Status::Rejected,
-            "REJECTED 8 1\n",
-        ),
-        (
-            "VALUE 8\n",
             "POINT x 5\nPOINT y 3\n",
             SQUARES,
             LEAF,
             Status::Rejected,
             "REJECTED 1 1\n",
+        ),
+        (
+            "VALUE 8\n",
+            "POINT x 2\nPOINT x 2\nPOINT y 3\n",
+            SQUARES,
+            LEAF,
+            Status::FileRefused,
+            "FILE 22 CertOrder\n",
+        ),
+    ] {
+        let input = [FIRST, "OPTIMAL\n", value, point, squares, tree, "END\n"];
+        assert!(rt; answers(alloc, "check", &input, status, text)?, "{text}");
+    }
+    Ok(())
+}
+
+#[test]
+fn squares_and_trees_of_an_optimal_point(rt: HostRuntime) -> Result<(), Fail> {
+    let alloc = rt.alloc();
+    for (value, point, squares, tree, status, text) in [
+        (
+            "VALUE 8\n",
+            POINT,
+            SQUARES,
+            "BOUND\nW x 2\nW y 3\nY c2 -3\n",
+            Status::Rejected,
+            "REJECTED 8 1\n",
         ),
         (
             "VALUE 8\n",
@@ -130,18 +149,16 @@ fn certificates_of_an_optimal_point(rt: HostRuntime) -> Result<(), Fail> {
             Status::Rejected,
             "REJECTED 6 1\n",
         ),
-        (
-            "VALUE 8\n",
-            "POINT x 2\nPOINT x 2\nPOINT y 3\n",
-            SQUARES,
-            LEAF,
-            Status::FileRefused,
-            "FILE 22 CertOrder\n",
-        ),
     ] {
         let input = [FIRST, "OPTIMAL\n", value, point, squares, tree, "END\n"];
         assert!(rt; answers(alloc, "check", &input, status, text)?, "{text}");
     }
+    Ok(())
+}
+
+#[test]
+fn certificate_without_its_end(rt: HostRuntime) -> Result<(), Fail> {
+    let alloc = rt.alloc();
     let cut = [FIRST, "OPTIMAL\nVALUE 8\n", POINT, SQUARES, LEAF];
     assert!(rt;
         answers(
@@ -155,106 +172,168 @@ fn certificates_of_an_optimal_point(rt: HostRuntime) -> Result<(), Fail> {
     Ok(())
 }
 
+const FRACTION: &str =
+    "ROWS\n N o\nCOLUMNS\n M 'MARKER' 'INTORG'\n x o 0\nBOUNDS\n LO B x 1/5\n UP B x 4/5\nENDATA\n";
+
+const FALLING: &str = "ROWS\n N o\nCOLUMNS\n M 'MARKER' 'INTORG'\n x o -1\nENDATA\n";
+
+const KEPT: &str = "ROWS\n N o\n L a\nCOLUMNS\n x o -1 a 2\nRHS\n R a 3\nENDATA\n";
+
+const CURVED: &str = "ROWS\n N o\nCOLUMNS\n x o -1\nQUADOBJ\n x x 2\nENDATA\n";
+
+const DOWN: &str = "ROWS\n N o\nCOLUMNS\n x o -1\nQUADOBJ\n x x -2\nENDATA\n";
+
+const LARGE: &str =
+    "ROWS\n N o\nCOLUMNS\n x o 170141183460469231731687303715884105727\n y o 170141183460469231731687303715884105727\nENDATA\n";
+
+const LARGE_FROM_ONE: &str =
+    "ROWS\n N obj\nCOLUMNS\n x obj 170141183460469231731687303715884105727\n y obj 170141183460469231731687303715884105727\nBOUNDS\n LO B x 1\n LO B y 1\nENDATA\n";
+
+const NEXT_PAST: &str =
+    "WITHHELD PAST\nSITE CHECK\nOP ADD 170141183460469231731687303715884105727 1\nEND\n";
+
+const SUM_PAST: &str =
+    "WITHHELD PAST\nSITE CHECK\nOP ADD 170141183460469231731687303715884105727 170141183460469231731687303715884105727\nEND\n";
+
 #[test]
-fn certificates_of_small_programs(rt: HostRuntime) -> Result<(), Fail> {
+fn certificates_of_trees_of_a_fraction_between(rt: HostRuntime) -> Result<(), Fail> {
     let alloc = rt.alloc();
-    let fraction =
-        "ROWS\n N o\nCOLUMNS\n M 'MARKER' 'INTORG'\n x o 0\nBOUNDS\n LO B x 1/5\n UP B x 4/5\nENDATA\n";
-    let falling = "ROWS\n N o\nCOLUMNS\n M 'MARKER' 'INTORG'\n x o -1\nENDATA\n";
-    let kept = "ROWS\n N o\n L a\nCOLUMNS\n x o -1 a 2\nRHS\n R a 3\nENDATA\n";
-    let curved = "ROWS\n N o\nCOLUMNS\n x o -1\nQUADOBJ\n x x 2\nENDATA\n";
-    let down = "ROWS\n N o\nCOLUMNS\n x o -1\nQUADOBJ\n x x -2\nENDATA\n";
-    let large =
-        "ROWS\n N o\nCOLUMNS\n x o 170141183460469231731687303715884105727\n y o 170141183460469231731687303715884105727\nENDATA\n";
-    let large_from_one =
-        "ROWS\n N obj\nCOLUMNS\n x obj 170141183460469231731687303715884105727\n y obj 170141183460469231731687303715884105727\nBOUNDS\n LO B x 1\n LO B y 1\nENDATA\n";
-    let next = "WITHHELD PAST\nSITE CHECK\nOP ADD 170141183460469231731687303715884105727 1\nEND\n";
-    let sum =
-        "WITHHELD PAST\nSITE CHECK\nOP ADD 170141183460469231731687303715884105727 170141183460469231731687303715884105727\nEND\n";
     for (program, certificate, status, text) in [
         (
-            fraction,
+            FRACTION,
             "INFEASIBLE\nBRANCH x 0\nCROSS x\nCROSS x\nEND\n",
             Status::Done,
             "ACCEPTED\n",
         ),
         (
-            fraction,
+            FRACTION,
             "INFEASIBLE\nBRANCH x 1\nCROSS x\nCROSS x\nEND\n",
             Status::Rejected,
             "REJECTED 10 2\n",
         ),
         (
-            fraction,
+            FRACTION,
             "INFEASIBLE\nBRANCH x 170141183460469231731687303715884105727\nCROSS x\nCROSS x\nEND\n",
             Status::Withheld,
-            next,
+            NEXT_PAST,
         ),
+    ] {
+        assert!(rt;
+            answers(alloc, "check", &[program, certificate], status, text)?,
+            "{certificate}"
+        );
+    }
+    Ok(())
+}
+
+#[test]
+fn certificates_of_rays(rt: HostRuntime) -> Result<(), Fail> {
+    let alloc = rt.alloc();
+    for (program, certificate, status, text) in [
         (
-            falling,
+            FALLING,
             "UNBOUNDED\nRAY x 1\nEND\n",
             Status::Done,
             "ACCEPTED\n",
         ),
         (
-            falling,
+            FALLING,
             "UNBOUNDED\nRAY x -1\nEND\n",
             Status::Rejected,
             "REJECTED 12 1\n",
         ),
         (
-            falling,
+            FALLING,
             "UNBOUNDED\nEND\n",
             Status::Rejected,
             "REJECTED 14 0\n",
         ),
         (
-            falling,
-            "OPTIMAL\nVALUE 0\nPOINT x 3/2\nCROSS x\nEND\n",
-            Status::Rejected,
-            "REJECTED 3 1\n",
-        ),
-        (
-            falling,
-            "OPTIMAL\nVALUE 0\nPOINT x -1\nCROSS x\nEND\n",
-            Status::Rejected,
-            "REJECTED 2 1\n",
-        ),
-        (
-            kept,
+            KEPT,
             "UNBOUNDED\nRAY x 1\nEND\n",
             Status::Rejected,
             "REJECTED 11 1\n",
         ),
         (
-            curved,
+            CURVED,
             "UNBOUNDED\nRAY x 1\nSQUARE 2\nCOEF x 1\nEND\n",
             Status::Rejected,
             "REJECTED 13 1\n",
         ),
+    ] {
+        assert!(rt;
+            answers(alloc, "check", &[program, certificate], status, text)?,
+            "{certificate}"
+        );
+    }
+    Ok(())
+}
+
+#[test]
+fn certificates_of_points_out_of_their_bounds(rt: HostRuntime) -> Result<(), Fail> {
+    let alloc = rt.alloc();
+    for (program, certificate, status, text) in [
         (
-            curved,
+            FALLING,
+            "OPTIMAL\nVALUE 0\nPOINT x 3/2\nCROSS x\nEND\n",
+            Status::Rejected,
+            "REJECTED 3 1\n",
+        ),
+        (
+            FALLING,
+            "OPTIMAL\nVALUE 0\nPOINT x -1\nCROSS x\nEND\n",
+            Status::Rejected,
+            "REJECTED 2 1\n",
+        ),
+    ] {
+        assert!(rt;
+            answers(alloc, "check", &[program, certificate], status, text)?,
+            "{certificate}"
+        );
+    }
+    Ok(())
+}
+
+#[test]
+fn certificates_of_vectors(rt: HostRuntime) -> Result<(), Fail> {
+    let alloc = rt.alloc();
+    for (program, certificate, status, text) in [
+        (
+            CURVED,
             "NOTCONVEX\nVECTOR x 1\nEND\n",
             Status::Rejected,
             "REJECTED 15 0\n",
         ),
         (
-            down,
+            DOWN,
             "NOTCONVEX\nVECTOR x 1\nEND\n",
             Status::Done,
             "ACCEPTED\n",
         ),
+    ] {
+        assert!(rt;
+            answers(alloc, "check", &[program, certificate], status, text)?,
+            "{certificate}"
+        );
+    }
+    Ok(())
+}
+
+#[test]
+fn certificates_of_values_past_the_limit(rt: HostRuntime) -> Result<(), Fail> {
+    let alloc = rt.alloc();
+    for (program, certificate, status, text) in [
         (
-            large,
+            LARGE,
             "OPTIMAL\nVALUE 0\nPOINT x 1\nPOINT y 1\nBOUND\nEND\n",
             Status::Withheld,
-            sum,
+            SUM_PAST,
         ),
         (
-            large_from_one,
+            LARGE_FROM_ONE,
             "OPTIMAL\nVALUE 0\nPOINT x 1\nPOINT y 1\nBOUND\nEND\n",
             Status::Withheld,
-            sum,
+            SUM_PAST,
         ),
     ] {
         assert!(rt;

@@ -8,7 +8,6 @@ use std::test::Fail;
 #[test]
 fn faults_of_programs(rt: HostRuntime) -> Result<(), Fail> {
     let alloc = rt.alloc();
-    let base = "ROWS\n N obj\nCOLUMNS\n x obj 1\n y obj 1\n";
     for (front, more, text) in [
         ("", "", "FILE 1 NoEnd\n"),
         ("ROWS\n N obj", "", "FILE 3 NoEnd\n"),
@@ -39,32 +38,46 @@ fn faults_of_programs(rt: HostRuntime) -> Result<(), Fail> {
             "RHS\n R c -170141183460469231731687303715884105727\nRANGES\n R c 1\nENDATA\n",
             "FILE 9 RangePast\n",
         ),
-        (base, "QSECTION\n", "FILE 6 UnknownSection\n"),
-        (base, "OBJSENSE\n", "FILE 6 MaxSense\n"),
-        (base, "ROWS\n", "FILE 6 SectionOrder\n"),
-        (base, " z obj 1 obj 2\n", "FILE 6 EntryTwice\n"),
-        (
-            base,
-            " z obj 170141183460469231731687303715884105728\n",
-            "FILE 6 NumberPast\n",
-        ),
-        (
-            base,
-            " M 'MARKER' 'INTORG'\n M 'MARKER' 'INTORG'\n",
-            "FILE 7 Marker\n",
-        ),
-        (base, "BOUNDS\n SC B x 4\n", "FILE 7 BoundKind\n"),
-        (base, "QUADOBJ\n x y 1\n y x 1\n", "FILE 8 EntryTwice\n"),
-        (base, "DMATRIX\n x x 1e38\n", "FILE 7 NumberPast\n"),
-        (base, "QMATRIX\n x y 1\nENDATA\n", "FILE 7 NotSymmetric\n"),
-        (base, "RHS\n RHS z 1\n", "FILE 7 NameUnknown\n"),
-        (base, "RHS\n RHS obj 1.2.3\n", "FILE 7 NumberText\n"),
-        (base, "RHS\n RHS\n", "FILE 7 Fields\n"),
-        (base, "ENDATA\nmore", "FILE 7 SectionOrder\n"),
     ] {
         for word in ["write", "solve"] {
             assert!(rt;
                 answers(alloc, word, &[front, more], Status::FileRefused, text)?,
+                "{text}"
+            );
+        }
+    }
+    Ok(())
+}
+
+#[test]
+fn faults_behind_the_columns(rt: HostRuntime) -> Result<(), Fail> {
+    let alloc = rt.alloc();
+    let base = "ROWS\n N obj\nCOLUMNS\n x obj 1\n y obj 1\n";
+    for (more, text) in [
+        ("QSECTION\n", "FILE 6 UnknownSection\n"),
+        ("OBJSENSE\n", "FILE 6 MaxSense\n"),
+        ("ROWS\n", "FILE 6 SectionOrder\n"),
+        (" z obj 1 obj 2\n", "FILE 6 EntryTwice\n"),
+        (
+            " z obj 170141183460469231731687303715884105728\n",
+            "FILE 6 NumberPast\n",
+        ),
+        (
+            " M 'MARKER' 'INTORG'\n M 'MARKER' 'INTORG'\n",
+            "FILE 7 Marker\n",
+        ),
+        ("BOUNDS\n SC B x 4\n", "FILE 7 BoundKind\n"),
+        ("QUADOBJ\n x y 1\n y x 1\n", "FILE 8 EntryTwice\n"),
+        ("DMATRIX\n x x 1e38\n", "FILE 7 NumberPast\n"),
+        ("QMATRIX\n x y 1\nENDATA\n", "FILE 7 NotSymmetric\n"),
+        ("RHS\n RHS z 1\n", "FILE 7 NameUnknown\n"),
+        ("RHS\n RHS obj 1.2.3\n", "FILE 7 NumberText\n"),
+        ("RHS\n RHS\n", "FILE 7 Fields\n"),
+        ("ENDATA\nmore", "FILE 7 SectionOrder\n"),
+    ] {
+        for word in ["write", "solve"] {
+            assert!(rt;
+                answers(alloc, word, &[base, more], Status::FileRefused, text)?,
                 "{text}"
             );
         }
