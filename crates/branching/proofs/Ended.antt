@@ -13,8 +13,8 @@ use Rattle.certificate_law.specs.declared.Node.TheVariants.{Branch, Bound, Farka
 use Rattle.certificate_law.specs.declared.Certificate.{Certificate}
 use Rattle.certificate_law.specs.declared.Certificate.TheVariants.{Optimal, Infeasible, Unbounded}
 use Rattle.certificate_law.specs.Nodes.{IsOneTree}
-use Rattle.cert_check_law.specs.Fits.{IsColumnVector, FitsTree}
-use Rattle.cert_text.specs.Writable.{branch_count, IsWritable}
+use Rattle.certificate_law.specs.Fits.{IsColumnVector, FitsTree}
+use Rattle.cert_grammar.specs.Writable.{branch_count, IsWritable}
 use Rattle.quad_solve_law.specs.Answer.{IsFound, IsFalling}
 use Rattle.branching_law.specs.declared.Turn.{Turn}
 use Rattle.branching_law.specs.Paths.{region_of}

@@ -7,11 +7,11 @@ use Rattle.program_law.specs.Program.{Program, IsProgram}
 use Rattle.certificate_law.specs.declared.Certificate.{Certificate}
 use Rattle.certificate_law.specs.declared.Certificate.TheVariants.{NotConvex}
 use Rattle.certificate_law.specs.Good.{IsGood}
-use Rattle.certificate_law.proofs.Semidefinite.{squares_semidefinite}
+use Rattle.program_law.proofs.Squared.{squares_semidefinite}
 use Rattle.cert_check_law.specs.Chain.{NoTestFails}
 use Rattle.cert_check_law.specs.Check.{checked}
 use Rattle.cert_check_law.proofs.Checks.{good_passes}
-use Rattle.cert_text.specs.Writable.{IsWritable}
+use Rattle.cert_grammar.specs.Writable.{IsWritable}
 use Rattle.rational.proofs.OrderLaws.{not-le_of_lt}
 use Rattle.program_law.specs.Verdict.{IsNotConvex}
 use Rattle.convexity.specs.declared.Curvature.TheVariants.{Squares, Negative}

@@ -6,8 +6,8 @@ use Rattle.program_law.specs.Program.{Program}
 use Rattle.program_law.specs.Verdict.{IsNotConvex}
 use Rattle.certificate_law.specs.declared.Certificate.{Certificate}
 use Rattle.certificate_law.specs.declared.Certificate.TheVariants.{NotConvex}
-use Rattle.certificate_law.specs.Squares.{AreSquaresOf}
-use Rattle.cert_check_law.specs.Fits.{FitsSquares}
+use Rattle.program_law.specs.Squares.{AreSquaresOf}
+use Rattle.certificate_law.specs.Fits.{FitsSquares}
 use Rattle.convexity.specs.declared.Curvature.TheVariants.{Squares, Negative}
 use Rattle.convexity.specs.ReductionCalculation.{squares_of}
 use Rattle.branching_law.specs.Found.{Reduced, Convex, Curved, IsFoundOf}

@@ -2,7 +2,7 @@
 
 ghost use Rattle.std.specs.Prelude.{◌≡◌, ◌<◌, length, true, false, IfOk, IfErr, OnOk};
 ghost use Rattle.program_law.specs.Region.{IsCrossedRegion};
-ghost use Rattle.certificate_law.specs.Squares.{AreSquaresOf};
+ghost use Rattle.program_law.specs.Squares.{AreSquaresOf};
 ghost use Rattle.quad_solve_law.specs.Answer.{IsBest};
 ghost use Rattle.quad_solve.specs.Relaxation.{HasLengths, IsRelaxedOf};
 ghost use Rattle.branching_law.specs.Nodes.{ForBest};
@@ -17,8 +17,8 @@ use crate::stops::{DecideStop, stop_on};
 use certificate_law::Node;
 use check_steps::entry;
 use frac_core::{Frac, Vector};
+use program_data::Program;
 use program_law::Squares;
-use program_model::Program;
 use quad_solve::{Relaxed, relax};
 use search_steps::{Incumbent, Progress, Trail, first_fractional, is_below};
 use std::alloc::Global;

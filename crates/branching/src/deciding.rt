@@ -3,7 +3,7 @@
 ghost use Rattle.std.specs.Prelude.{◌≤◌, IfOk, IfErr, false};
 ghost use Rattle.program_law.specs.Region.{IsCrossedRegion};
 ghost use Rattle.quad_solve_law.specs.Answer.{IsFalling};
-ghost use Rattle.cert_text.specs.Writable.{IsWritable};
+ghost use Rattle.cert_grammar.specs.Writable.{IsWritable};
 ghost use Rattle.branching_law.specs.Found.{Convex, IsFoundOf};
 ghost use Rattle.branching_law.specs.Nodes.{Search};
 ghost use Rattle.branching_law.specs.Rounding.{IsMarked};
@@ -12,7 +12,7 @@ ghost use Rattle.search_steps.specs.Progressing.{IsOnWay, IsRoot};
 ghost use Rattle.branching.specs.Rays.{IsNoRay};
 ghost use Rattle.branching.specs.Stops.{IsStopOf};
 ghost use Rattle.quad_solve.specs.Relaxation.{HasLengths, IsRelaxedOf};
-ghost use Rattle.cert_check_law.specs.Fits.{IsColumnVector};
+ghost use Rattle.certificate_law.specs.Fits.{IsColumnVector};
 
 use crate::Limits;
 use crate::best::{best_searched, relaxed};
@@ -20,8 +20,8 @@ use crate::point::point_searched;
 use crate::stops::DecideStop;
 use certificate_law::Certificate;
 use frac_core::{Frac, Memory, Vector};
+use program_data::Program;
 use program_law::Squares;
-use program_model::Program;
 use quad_solve::Relaxed;
 use search_steps::{Progress, Trail, closed, is_marked, rounded};
 use std::alloc::Global;

@@ -11,7 +11,7 @@ ghost use Rattle.std.specs.Prelude.{◌≤◌, ◌↔◌, IfOk, IfErr};
 ghost use Rattle.certificate_law.specs.Good.{IsGood};
 ghost use Rattle.cert_check_law.specs.Chain.{NoTestFails};
 ghost use Rattle.cert_check_law.specs.Check.{checked};
-ghost use Rattle.cert_text.specs.Writable.{IsWritable};
+ghost use Rattle.cert_grammar.specs.Writable.{IsWritable};
 ghost use Rattle.branching.specs.Decided.{ClaimsCurved, IsCurved, IsFound};
 ghost use Rattle.branching.specs.Stops.{HasPathIn, IsStopOf};
 
@@ -21,7 +21,7 @@ use certificate_law::Certificate;
 use convexity::{Curvature, squares};
 pub use endings::programs_have_one_ending;
 use exact_matrix::Stop;
-use program_model::Program;
+use program_data::Program;
 use quad_solve::Site;
 pub use search_steps::Path;
 use search_steps::no_turns;

@@ -15,7 +15,7 @@ use crate::stops::{DecideStop, stop_on};
 use certificate_law::Node;
 use check_steps::entry;
 use frac_core::{Frac, Vector};
-use program_model::Program;
+use program_data::Program;
 use quad_solve::{AnyPoint, any_point};
 use search_steps::{Progress, Trail, first_fractional};
 use std::alloc::Global;

@@ -9,17 +9,15 @@ use Rattle.rational.specs.Order.{◌≤ℚ◌}
 use Rattle.rational.specs.Vectors.{IsSemidefinite}
 use Rattle.rational.proofs.OrderLaws.{le_trans, not-le_of_lt}
 use Rattle.rational.proofs.Order.{lt_le}
-use Rattle.program_law.specs.Tests.{is_le}
+use Rattle.rational.specs.Tests.{is_le}
 use Rattle.program_law.proofs.Numbers.{le_tested, lt_tested}
-use Rattle.program_law.specs.Vectors.{at}
-use Rattle.program_law.specs.Region.{Region, smaller, larger, cut_high, cut_low, left_of, right_of, IsCrossedRegion}
-use Rattle.program_law.specs.Program.{Program, IsProgram, bounds, marks}
+use Rattle.rational.specs.Sums.{entry}
+use Rattle.program_law.specs.Region.{Region, smaller, larger, cut_high, cut_low, left_of, right_of, IsCrossedRegion, bounds_at}
+use Rattle.program_law.specs.Program.{Program, IsProgram, bounds, marks, is_marked}
 use Rattle.program_law.specs.Point.{IsWithin}
 use Rattle.program_law.specs.Columns.{IsRelaxedPoint, value}
 use Rattle.certificate_law.specs.declared.Node.{Node}
 use Rattle.certificate_law.specs.declared.Node.TheVariants.{Branch, Bound, Farkas, Cross}
-use Rattle.certificate_law.specs.Tree.{is_marked}
-use Rattle.cert_check_law.specs.Tree.{bounds_at}
 use Rattle.quad_solve_law.proofs.RegionAnswers.{found_is_point, best_is_point}
 use Rattle.branching_law.specs.declared.Turn.{Turn}
 use Rattle.branching_law.specs.Paths.{region_of, below, above}
@@ -183,7 +181,7 @@ module _ (p : Program) (is : IsProgram p) (aim : Search) (bases : ℕ) where
   pub split_at : IsSemidefinite (length p.columns) p.pairs → (points : List (List ℚ)) (path : List Turn) (j : ℕ) (k : ℤ) → AreGrid (marks p) (region_of p path)
       → IsInnerNode aim p bases points (region_of p path) j k → IsSplit k (bounds_at (region_of p path) j)
   split_at convex points path j k g inner =
-      split_by (bounds_at (region_of p path) j) (at inner.point j) k (grid_at (marks p) (region_of p path) j g inner.branch.first.holds.marked)
+      split_by (bounds_at (region_of p path) j) (entry inner.point j) k (grid_at (marks p) (region_of p path) j g inner.branch.first.holds.marked)
       (within_at (region_of p path) inner.point j (carried_point convex path inner.point inner.carried).columns) inner.branch.floor inner.branch.first.holds.fractional
 
   pub below_grid_of : (path : List Turn) (j : ℕ) (k : ℤ) → AreGrid (marks p) (region_of p path) → IsSplit k (bounds_at (region_of p path) j) → AreGrid (marks p) (region_of p (path ++ below j k ∷ []))

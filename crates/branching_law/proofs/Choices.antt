@@ -12,16 +12,14 @@ use Rattle.rational.specs.Vectors.{IsSemidefinite}
 use Rattle.rational.proofs.Order.{lt_le, le_refl, le_or_lt}
 use Rattle.rational.proofs.OrderLaws.{le_of_eq, le_trans}
 use Rattle.rational.proofs.Wholes.{as_whole}
-use Rattle.program_law.specs.Tests.{is_le}
+use Rattle.rational.specs.Tests.{is_le}
 use Rattle.program_law.proofs.Numbers.{le_tested, lt_tested}
 use Rattle.program_law.specs.declared.Row.{Row}
-use Rattle.program_law.specs.Region.{Region, smaller, larger, left_of, right_of, IsCrossedRegion}
-use Rattle.program_law.specs.Program.{Program, IsProgram, bounds, marks}
+use Rattle.program_law.specs.Region.{Region, smaller, larger, left_of, right_of, IsCrossedRegion, bounds_at}
+use Rattle.program_law.specs.Program.{Program, IsProgram, bounds, marks, is_marked}
 use Rattle.program_law.specs.Columns.{IsWhole}
 use Rattle.certificate_law.specs.declared.Node.{Node}
 use Rattle.certificate_law.specs.declared.Node.TheVariants.{Branch, Bound, Farkas, Cross}
-use Rattle.certificate_law.specs.Tree.{is_marked}
-use Rattle.cert_check_law.specs.Tree.{bounds_at}
 use Rattle.branching_law.specs.declared.Cut.{Cut}
 use Rattle.branching_law.specs.declared.Cut.TheVariants.{Below, Above}
 use Rattle.branching_law.specs.declared.Turn.{Turn}

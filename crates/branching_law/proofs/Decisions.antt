@@ -6,12 +6,10 @@ use Rattle.std.proofs.lemmas.Bool.Decides.{nat_tests}
 use Rattle.rational.specs.Rational.{ℚ}
 use Rattle.rational.specs.Rounding.{floor_of}
 use Rattle.rational.proofs.Rounding.{IsFloor-floor_of}
-use Rattle.program_law.specs.Vectors.{at}
-use Rattle.program_law.specs.Region.{Region, IsCrossedAt, IsCrossedRegion}
-use Rattle.program_law.specs.Program.{Program, marks}
+use Rattle.rational.specs.Sums.{entry}
+use Rattle.program_law.specs.Region.{Region, IsCrossedAt, IsCrossedRegion, is_above, bounds_at}
+use Rattle.program_law.specs.Program.{Program, marks, is_marked}
 use Rattle.program_law.specs.Columns.{IsWhole, AreWholeOn}
-use Rattle.certificate_law.specs.Tree.{is_marked}
-use Rattle.cert_check_law.specs.Tree.{is_above, bounds_at}
 use Rattle.branching_law.specs.declared.Turn.{Turn}
 use Rattle.branching_law.specs.Paths.{region_of, below, above, IsFirst}
 use Rattle.branching_law.specs.Rounding.{IsMarkedAt, IsMarked, IsFractional, IsBroken, IsRounding, IsRoundingTo}
@@ -71,7 +69,7 @@ pub fractional_or : (p : Program) (x : List ℚ) (j : ℕ) → IsFractionalAt p 
 fractional_or p x j =
     elim (marked_or p j) [
       | inr n ↦ inr (λ f. n f.marked)
-      | inl m ↦ elim (whole_or (at x j)) [ inl w ↦ inr (λ f. f.fractional w) | inr n ↦ inl (record { marked = m; fractional = n }) ]
+      | inl m ↦ elim (whole_or (entry x j)) [ inl w ↦ inr (λ f. f.fractional w) | inr n ↦ inl (record { marked = m; fractional = n }) ]
     ]
 
 -- the first place below n, or none
@@ -96,7 +94,7 @@ first_or P decide (suc n) =
 pub branch_or : (p : Program) (x : List ℚ) → ((j : ℕ) × (k : ℤ) × IsBranch p x j k) ⊎ AreWholeOn (marks p) x
 branch_or p x =
     elim (first_or (IsFractionalAt p x) (fractional_or p x) (length p.columns)) [
-      | inl f ↦ inl (f.0, floor_of (at x f.0), record { first = f.1; floor = IsFloor-floor_of (at x f.0) })
+      | inl f ↦ inl (f.0, floor_of (entry x f.0), record { first = f.1; floor = IsFloor-floor_of (entry x f.0) })
       | inr none ↦ inr (kept_by_none p x (λ j f. none j (marked_column p j f.marked) f))
     ]
 

@@ -4,11 +4,10 @@ use Rattle.std.specs.List.{prefix_len}
 use Rattle.std.proofs.Common.{refl, sym, ◌∙◌, ap, subst, cond, arith}
 use Rattle.std.proofs.lemmas.Bool.Decides.{nat_tests}
 use Rattle.rational.specs.Rational.{ℚ}
-use Rattle.program_law.specs.Tests.{is_le}
+use Rattle.rational.specs.Tests.{is_le}
 use Rattle.program_law.proofs.Numbers.{lt_test, lt_tested}
 use Rattle.program_law.specs.declared.Row.{Row}
-use Rattle.program_law.specs.Region.{Region, IsCrossed, IsCrossedAt, IsCrossedRegion}
-use Rattle.cert_check_law.specs.Tree.{is_above}
+use Rattle.program_law.specs.Region.{Region, IsCrossed, IsCrossedAt, IsCrossedRegion, is_above}
 use Rattle.branching_law.specs.Paths.{IsFirst}
 
 abbrev test : Row → Bool

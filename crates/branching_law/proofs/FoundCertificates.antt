@@ -7,7 +7,7 @@ use Rattle.program_law.specs.Program.{Program, IsProgram, bounds}
 use Rattle.program_law.specs.Columns.{IsRelaxedPoint, value}
 use Rattle.certificate_law.specs.declared.Node.{Node}
 use Rattle.certificate_law.specs.declared.Certificate.{Certificate}
-use Rattle.certificate_law.specs.Squares.{AreSquaresOf}
+use Rattle.program_law.specs.Squares.{AreSquaresOf}
 use Rattle.certificate_law.specs.Nodes.{IsOneTree}
 use Rattle.certificate_law.specs.Tree.{IsGoodTree}
 use Rattle.certificate_law.specs.Ray.{IsRay}

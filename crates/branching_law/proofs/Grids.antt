@@ -10,12 +10,11 @@ use Rattle.rational.proofs.OrderLaws.{le_of_eq, le_trans, lt-le_trans, not-le_of
 use Rattle.rational.proofs.Wholes.{den-whole, as_whole}
 use Rattle.program_law.proofs.Numbers.{le_test, lt_test}
 use Rattle.program_law.specs.declared.Row.{Row}
-use Rattle.program_law.specs.Vectors.{at}
-use Rattle.program_law.specs.Region.{Region, smaller, larger, left_of, right_of, IsCrossed, IsCrossedAt, IsCrossedRegion}
+use Rattle.rational.specs.Sums.{entry}
+use Rattle.program_law.specs.Region.{Region, smaller, larger, left_of, right_of, IsCrossed, IsCrossedAt, IsCrossedRegion, bounds_at}
 use Rattle.program_law.specs.Point.{IsWithin}
 use Rattle.program_law.specs.Columns.{AllWithin, IsWhole}
-use Rattle.certificate_law.specs.Tree.{is_marked}
-use Rattle.cert_check_law.specs.Tree.{bounds_at}
+use Rattle.program_law.specs.Program.{is_marked}
 use Rattle.branching_law.specs.Rounding.{IsFractional}
 use Rattle.branching_law.proofs.Floors.{above_floor, next_whole, whole_below, whole_above}
 use Rattle.branching_law.proofs.Marks.{whole_unless}
@@ -129,7 +128,7 @@ right_grid (m ∷ ms) (b ∷ bs) (suc j) k g s = (g.0, right_grid ms bs j k g.1 
 
 -- ---- a point inside
 
-pub within_at : (bs : Region) (x : List ℚ) (j : ℕ) → AllWithin bs x → IsWithin (bounds_at bs j) (at x j)
+pub within_at : (bs : Region) (x : List ℚ) (j : ℕ) → AllWithin bs x → IsWithin (bounds_at bs j) (entry x j)
 within_at [] x j w = record { low = tt; high = tt }
 within_at (b ∷ bs) [] j w = absurd w
 within_at (b ∷ bs) (q ∷ x) zero w = w.0

@@ -4,10 +4,9 @@ use Rattle.std.proofs.Common.{refl, arith}
 use Rattle.std.proofs.lemmas.Bool.Decides.{nat_tests}
 use Rattle.rational.specs.Rational.{ℚ}
 use Rattle.rational.proofs.Wholes.{den-whole}
-use Rattle.program_law.specs.Vectors.{at}
-use Rattle.program_law.specs.Program.{Program, marks}
+use Rattle.rational.specs.Sums.{entry}
+use Rattle.program_law.specs.Program.{Program, marks, is_marked}
 use Rattle.program_law.specs.Columns.{IsWhole, AreWholeOn}
-use Rattle.certificate_law.specs.Tree.{is_marked}
 use Rattle.branching_law.specs.Rounding.{IsMarked}
 use Rattle.branching_law.specs.Nodes.{IsFractionalAt}
 
@@ -28,19 +27,19 @@ unmarked_past j e = absurd (bad e)
     bad : false ≡ true → ⊥
     bad e = cc
 
-all_whole : (ms : List Bool) (x : List ℚ) → ((j : ℕ) → is_marked ms j ≡ true → IsWhole (at x j)) → AreWholeOn ms x
+all_whole : (ms : List Bool) (x : List ℚ) → ((j : ℕ) → is_marked ms j ≡ true → IsWhole (entry x j)) → AreWholeOn ms x
 all_whole [] x h = tt
 all_whole (m ∷ ms) [] h = tt
 all_whole (m ∷ ms) (q ∷ x) h = (h zero, all_whole ms x (λ j. h (suc j)))
 
-whole_where : (ms : List Bool) (x : List ℚ) (j : ℕ) → AreWholeOn ms x → is_marked ms j ≡ true → IsWhole (at x j)
+whole_where : (ms : List Bool) (x : List ℚ) (j : ℕ) → AreWholeOn ms x → is_marked ms j ≡ true → IsWhole (entry x j)
 whole_where [] x j h m = unmarked_past j m
 whole_where (b ∷ ms) [] j h m = den-whole _
 whole_where (b ∷ ms) (q ∷ x) zero h m = h.0 m
 whole_where (b ∷ ms) (q ∷ x) (suc j) h m = whole_where ms x j h.1 m
 
 pub kept_by_none : (p : Program) (x : List ℚ) → ((j : ℕ) → ¬ (IsFractionalAt p x j)) → AreWholeOn (marks p) x
-kept_by_none p x h = all_whole (marks p) x (λ j m. whole_unless (at x j) (λ n. h j (record { marked = m; fractional = n })))
+kept_by_none p x h = all_whole (marks p) x (λ j m. whole_unless (entry x j) (λ n. h j (record { marked = m; fractional = n })))
 
 pub branch_is_not_kept : (p : Program) (x : List ℚ) (j : ℕ) → IsFractionalAt p x j → ¬ (AreWholeOn (marks p) x)
 branch_is_not_kept p x j f w = f.fractional (whole_where (marks p) x j w f.marked)

@@ -8,13 +8,12 @@ use Rattle.rational.specs.Rational.{ℚ}
 use Rattle.rational.specs.Vectors.{IsSemidefinite}
 use Rattle.program_law.specs.declared.Row.{Row}
 use Rattle.program_law.specs.Region.{Region, IsCrossedAt}
-use Rattle.program_law.specs.Program.{Program, IsProgram, bounds, marks, sides}
+use Rattle.program_law.specs.Program.{Program, IsProgram, bounds, marks, sides, is_marked}
 use Rattle.program_law.specs.Columns.{AllWithin, value}
 use Rattle.certificate_law.specs.declared.Node.{Node}
 use Rattle.certificate_law.specs.declared.Node.TheVariants.{Branch, Bound, Farkas, Cross}
 use Rattle.certificate_law.specs.Nodes.{AreTrees, IsOneTree}
-use Rattle.certificate_law.specs.Tree.{is_marked}
-use Rattle.cert_check_law.specs.Fits.{FitsNode, HasNoBound}
+use Rattle.certificate_law.specs.Fits.{FitsNode, HasNoBound}
 use Rattle.equational_law.specs.Form.{equations, multipliers_of, firsts, unsigned}
 use Rattle.quad_solve_law.specs.Answer.{IsEmpty, IsBest}
 use Rattle.quad_solve_law.proofs.RegionAnswers.{best_is_point}

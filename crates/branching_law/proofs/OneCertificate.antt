@@ -10,7 +10,7 @@ use Rattle.program_law.specs.Program.{Program, IsProgram}
 use Rattle.certificate_law.specs.declared.Node.{Node}
 use Rattle.certificate_law.specs.declared.Certificate.{Certificate}
 use Rattle.certificate_law.specs.declared.Certificate.TheVariants.{Unbounded}
-use Rattle.certificate_law.specs.Squares.{AreSquaresOf}
+use Rattle.program_law.specs.Squares.{AreSquaresOf}
 use Rattle.quad_solve_law.specs.Answer.{Ray, IsFound, IsFalling}
 use Rattle.quad_solve_law.proofs.OneAnswer.{one_answer, one_found}
 use Rattle.quad_solve_law.proofs.RegionAnswers.{found_is_point, falling_is_ray}

@@ -7,7 +7,7 @@ use Rattle.rational.specs.Rounding.{IsFloor}
 use Rattle.rational.specs.Vectors.{IsSemidefinite}
 use Rattle.rational.proofs.OrderLaws.{not-le_of_lt}
 use Rattle.rational.proofs.Rounding.{IsFloor-unique}
-use Rattle.program_law.specs.Vectors.{at}
+use Rattle.rational.specs.Sums.{entry}
 use Rattle.program_law.specs.Region.{Region, IsCrossedAt, IsCrossedRegion}
 use Rattle.program_law.specs.Program.{Program, IsProgram, marks}
 use Rattle.program_law.specs.Columns.{AreWholeOn, value}
@@ -35,7 +35,7 @@ same_best x z v w y u e = (cc, cc)
 branch_is_one : (p : Program) (x : List ℚ) (j i : ℕ) (k l : ℤ) → IsBranch p x j k → IsBranch p x i l → Branch j k ≡ Branch i l
 branch_is_one p x j i k l h g =
     let e = first_is_one (IsFractionalAt p x) j i h.first g.first in
-    let f = IsFloor-unique k l (at x i) (subst (λ (n : ℕ). IsFloor k (at x n)) e h.floor) g.floor in
+    let f = IsFloor-unique k l (entry x i) (subst (λ (n : ℕ). IsFloor k (entry x n)) e h.floor) g.floor in
     ap (λ n. Branch n k) e ∙ ap (λ m. Branch i m) f
 
 module _ (p : Program) (is : IsProgram p) (convex : IsSemidefinite (length p.columns) p.pairs) where

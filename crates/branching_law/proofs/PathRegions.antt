@@ -5,7 +5,7 @@ use Rattle.rational.specs.Rational.{ℚ}
 use Rattle.rational.specs.Order.{◌≤ℚ◌}
 use Rattle.rational.proofs.Order.{lt_le}
 use Rattle.rational.proofs.OrderLaws.{le_trans}
-use Rattle.program_law.specs.Tests.{is_le}
+use Rattle.rational.specs.Tests.{is_le}
 use Rattle.program_law.proofs.Numbers.{le_tested, lt_tested}
 use Rattle.program_law.specs.Region.{Region, smaller, larger, cut_high, cut_low}
 use Rattle.program_law.specs.Columns.{AllWithin}

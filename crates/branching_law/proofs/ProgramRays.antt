@@ -11,10 +11,9 @@ use Rattle.rational.proofs.Order.{ordered_rationals, lt_le}
 use Rattle.rational.proofs.OrderLaws.{reciprocal_positive, ne_of_lt}
 use Rattle.rational.proofs.Vectors.{dot-scale_right, rows_dot-scale}
 use Rattle.program_law.specs.declared.Row.{Row}
-use Rattle.program_law.specs.Region.{Region}
+use Rattle.program_law.specs.Region.{Region, bounds_at}
 use Rattle.program_law.specs.Program.{Program, bounds, sides}
 use Rattle.certificate_law.specs.Ray.{KeepsSides, AllKeepSides, AreZero, IsRay}
-use Rattle.cert_check_law.specs.Tree.{bounds_at}
 use Rattle.equational_law.specs.Solutions.{IsRegionRay, HasItsBounds}
 use Rattle.equational_law.proofs.Rays.{fewer_bounds}
 use Rattle.quad_solve_law.proofs.RegionRays.{has_itself}

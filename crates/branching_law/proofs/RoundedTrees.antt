@@ -5,15 +5,14 @@ use Rattle.rational.specs.Rational.{ℚ, whole}
 use Rattle.rational.specs.Order.{◌≤ℚ◌}
 use Rattle.rational.proofs.Order.{lt_le, le_refl}
 use Rattle.rational.proofs.OrderLaws.{le-lt_trans, lt-le_trans}
-use Rattle.program_law.specs.Tests.{is_le}
+use Rattle.rational.specs.Tests.{is_le}
 use Rattle.program_law.proofs.Numbers.{le_tested, lt_tested}
-use Rattle.program_law.specs.Region.{Region, smaller, larger, left_of, right_of, IsCrossedAt}
+use Rattle.program_law.specs.Region.{Region, smaller, larger, left_of, right_of, IsCrossedAt, bounds_at}
 use Rattle.program_law.specs.Program.{Program}
 use Rattle.certificate_law.specs.declared.Node.{Node}
 use Rattle.certificate_law.specs.declared.Node.TheVariants.{Branch, Bound, Farkas, Cross}
 use Rattle.certificate_law.specs.Nodes.{AreTrees}
 use Rattle.certificate_law.specs.Tree.{AreGood}
-use Rattle.cert_check_law.specs.Tree.{bounds_at}
 use Rattle.branching_law.specs.declared.Cut.{Cut}
 use Rattle.branching_law.specs.declared.Cut.TheVariants.{Below, Above}
 use Rattle.branching_law.specs.declared.Turn.{Turn}

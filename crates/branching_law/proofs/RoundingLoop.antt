@@ -9,10 +9,8 @@ use Rattle.rational.proofs.Order.{lt_le}
 use Rattle.rational.proofs.Wholes.{den-whole}
 use Rattle.program_law.proofs.Numbers.{le_test, lt_test}
 use Rattle.program_law.specs.declared.Row.{Row}
-use Rattle.program_law.specs.Region.{Region, smaller, larger, left_of, right_of, IsCrossedRegion}
-use Rattle.program_law.specs.Program.{Program, bounds, marks}
-use Rattle.certificate_law.specs.Tree.{is_marked}
-use Rattle.cert_check_law.specs.Tree.{bounds_at}
+use Rattle.program_law.specs.Region.{Region, smaller, larger, left_of, right_of, IsCrossedRegion, bounds_at}
+use Rattle.program_law.specs.Program.{Program, bounds, marks, is_marked}
 use Rattle.branching_law.specs.declared.Cut.{Cut}
 use Rattle.branching_law.specs.declared.Cut.TheVariants.{Below, Above}
 use Rattle.branching_law.specs.declared.Turn.{Turn}

@@ -12,11 +12,9 @@ use Rattle.rational.proofs.Rounding.{IsFloor-unique}
 use Rattle.rational.proofs.Wholes.{den-whole}
 use Rattle.program_law.proofs.Numbers.{le_test, lt_test}
 use Rattle.program_law.specs.declared.Row.{Row}
-use Rattle.program_law.specs.Region.{Region, smaller, larger}
-use Rattle.program_law.specs.Program.{Program, bounds, marks}
+use Rattle.program_law.specs.Region.{Region, smaller, larger, bounds_at}
+use Rattle.program_law.specs.Program.{Program, bounds, marks, is_marked}
 use Rattle.program_law.specs.Columns.{IsWhole}
-use Rattle.certificate_law.specs.Tree.{is_marked}
-use Rattle.cert_check_law.specs.Tree.{bounds_at}
 use Rattle.branching_law.specs.declared.Cut.{Cut}
 use Rattle.branching_law.specs.declared.Cut.TheVariants.{Below, Above}
 use Rattle.branching_law.specs.declared.Turn.{Turn}

@@ -13,7 +13,7 @@ use Rattle.certificate_law.specs.declared.Node.{Node}
 use Rattle.certificate_law.specs.declared.Node.TheVariants.{Branch, Bound, Farkas, Cross}
 use Rattle.certificate_law.specs.declared.Certificate.{Certificate}
 use Rattle.certificate_law.specs.declared.Certificate.TheVariants.{Unbounded}
-use Rattle.certificate_law.specs.Squares.{AreSquaresOf}
+use Rattle.program_law.specs.Squares.{AreSquaresOf}
 use Rattle.linear_basis_law.specs.Basis.{Tableau}
 use Rattle.equational_law.specs.Form.{width, form_of, point_of, multipliers_of}
 use Rattle.quad_solve_law.specs.Answer.{Answer, Empty, Ray, Best, IsAnswer, IsFound, IsFalling, IsBest}

@@ -11,13 +11,12 @@ use Rattle.rational.specs.Vectors.{IsSymmetric, IsSemidefinite, dot, rows_dot}
 use Rattle.rational.proofs.Order.{ordered_rationals, lt_irrefl}
 use Rattle.rational.proofs.OrderLaws.{le_of_eq}
 use Rattle.rational.proofs.Wholes.{den-whole}
-use Rattle.program_law.specs.Region.{Region, IsCrossedAt, IsCrossedRegion}
+use Rattle.program_law.specs.Region.{Region, IsCrossedAt, IsCrossedRegion, bounds_at}
 use Rattle.program_law.specs.Program.{bounds}
 use Rattle.program_law.specs.Columns.{value}
 use Rattle.certificate_law.specs.declared.Node.{Node}
 use Rattle.certificate_law.specs.declared.Node.TheVariants.{Branch, Bound}
 use Rattle.certificate_law.specs.declared.Certificate.TheVariants.{Optimal}
-use Rattle.cert_check_law.specs.Tree.{bounds_at}
 use Rattle.equational_law.specs.Form.{Form, form_of, point_of}
 use Rattle.equational_law.specs.Solutions.{IsForm, IsSolution}
 use Rattle.face_descent_law.specs.Small.{IsStationary}

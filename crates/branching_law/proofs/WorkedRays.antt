@@ -12,11 +12,10 @@ use Rattle.rational.proofs.Order.{ordered_rationals, le_refl}
 use Rattle.rational.proofs.OrderLaws.{not-le_of_lt}
 use Rattle.rational.proofs.Wholes.{den-whole}
 use Rattle.program_law.proofs.Numbers.{le_tested}
-use Rattle.program_law.specs.Region.{Region, IsCrossedAt, IsCrossedRegion}
+use Rattle.program_law.specs.Region.{Region, IsCrossedAt, IsCrossedRegion, bounds_at}
 use Rattle.program_law.specs.Program.{Program, bounds}
 use Rattle.certificate_law.specs.declared.Node.TheVariants.{Branch, Farkas}
 use Rattle.certificate_law.specs.declared.Certificate.TheVariants.{Infeasible, Unbounded}
-use Rattle.cert_check_law.specs.Tree.{bounds_at}
 use Rattle.equational_law.specs.Form.{Form, form_of, point_of, direction_of, multipliers_of}
 use Rattle.quad_solve_law.specs.Problems.{feasible_problem, ray_problem}
 use Rattle.quad_solve_law.specs.Walk.{IsSolvedWithin, IsRefutedWithin}

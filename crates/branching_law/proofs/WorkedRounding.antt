@@ -11,11 +11,10 @@ use Rattle.rational.specs.Vectors.{dot, rows_dot, IsSymmetric}
 use Rattle.rational.proofs.Order.{ordered_rationals}
 use Rattle.rational.proofs.OrderLaws.{not-le_of_lt}
 use Rattle.program_law.proofs.Numbers.{le_tested, lt_tested}
-use Rattle.program_law.specs.Region.{larger, IsCrossedAt}
+use Rattle.program_law.specs.Region.{larger, IsCrossedAt, bounds_at}
 use Rattle.program_law.specs.Program.{bounds}
 use Rattle.certificate_law.specs.declared.Node.TheVariants.{Branch, Cross}
 use Rattle.certificate_law.specs.declared.Certificate.TheVariants.{Infeasible}
-use Rattle.cert_check_law.specs.Tree.{bounds_at}
 use Rattle.quad_solve_law.specs.Worked.{n, over}
 use Rattle.quad_solve_law.proofs.Tested.{symmetric}
 use Rattle.branching_law.specs.Paths.{region_of, above}

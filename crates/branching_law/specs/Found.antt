@@ -3,11 +3,11 @@ use Rattle.std.specs.Prelude.{◌≡◌, ◌⊎◌, ℕ, ◌≤◌, List, [], �
 use Rattle.rational.specs.Rational.{ℚ, zero_ℚ}
 use Rattle.rational.specs.Order.{◌≤ℚ◌, ◌<ℚ◌}
 use Rattle.program_law.specs.declared.Square.{Square}
-use Rattle.program_law.specs.Vectors.{form}
+use Rattle.rational.specs.Vectors.{form}
 use Rattle.program_law.specs.Region.{IsCrossedRegion}
 use Rattle.program_law.specs.Program.{Program, bounds, marks}
 use Rattle.program_law.specs.Columns.{AreWholeOn, value}
-use Rattle.certificate_law.specs.Squares.{AreSquaresOf}
+use Rattle.program_law.specs.Squares.{AreSquaresOf}
 use Rattle.certificate_law.specs.declared.Node.{Node}
 use Rattle.certificate_law.specs.declared.Certificate.{Certificate}
 use Rattle.certificate_law.specs.declared.Certificate.TheVariants.{Optimal, Infeasible, Unbounded, NotConvex}

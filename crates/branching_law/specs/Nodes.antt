@@ -3,7 +3,7 @@ use Rattle.std.specs.Prelude.{◌⊎◌, ℕ, ℤ, List, Contains}
 use Rattle.rational.specs.Rational.{ℚ}
 use Rattle.rational.specs.Order.{◌≤ℚ◌, ◌<ℚ◌}
 use Rattle.rational.specs.Rounding.{IsFloor}
-use Rattle.program_law.specs.Vectors.{at}
+use Rattle.rational.specs.Sums.{entry}
 use Rattle.program_law.specs.Region.{Region, IsCrossedAt, IsCrossedRegion}
 use Rattle.program_law.specs.Program.{Program, marks}
 use Rattle.program_law.specs.Columns.{IsWhole, AreWholeOn, value}
@@ -27,12 +27,12 @@ Carries ForPoint p region bases x = IsFound p region bases x
 -- column j is marked, and x isn't whole there
 pub record IsFractionalAt (p : Program) (x : List ℚ) (j : ℕ) : Type 0 where
   pub marked : IsMarkedAt p j
-  pub fractional : ¬ (IsWhole (at x j))
+  pub fractional : ¬ (IsWhole (entry x j))
 
 -- the branch at x: on the first marked column at which x isn't whole, at its floor there
 pub record IsBranch (p : Program) (x : List ℚ) (j : ℕ) (k : ℤ) : Type 0 where
   pub first : IsFirst (IsFractionalAt p x) j
-  pub floor : IsFloor k (at x j)
+  pub floor : IsFloor k (entry x j)
 
 -- ---- the points that leaves carry
 

@@ -4,13 +4,11 @@ use Rattle.std.specs.Prelude.{◌≡◌, ◌⊎◌, ℕ, ◌<◌, ℤ, List, [],
 use Rattle.rational.specs.Rational.{ℚ}
 use Rattle.rational.specs.Rounding.{IsFloor}
 use Rattle.program_law.specs.declared.Row.{Row}
-use Rattle.program_law.specs.Region.{Region, IsCrossedRegion}
-use Rattle.program_law.specs.Program.{Program, bounds, marks}
+use Rattle.program_law.specs.Region.{Region, IsCrossedRegion, bounds_at}
+use Rattle.program_law.specs.Program.{Program, bounds, marks, is_marked}
 use Rattle.program_law.specs.Columns.{IsWhole}
-use Rattle.certificate_law.specs.Tree.{is_marked}
 use Rattle.certificate_law.specs.declared.Node.{Node}
 use Rattle.certificate_law.specs.declared.Node.TheVariants.{Branch, Cross}
-use Rattle.cert_check_law.specs.Tree.{bounds_at}
 use Rattle.branching_law.specs.declared.Cut.{Cut}
 use Rattle.branching_law.specs.declared.Cut.TheVariants.{Below, Above}
 use Rattle.branching_law.specs.declared.Turn.{Turn}

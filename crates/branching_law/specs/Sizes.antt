@@ -3,7 +3,7 @@ use Rattle.std.specs.Prelude.{◌≢◌, ◌<◌, ◌^◌, ℤ, pos, neg_ℤ, le
 use Rattle.program_law.specs.Program.{Program}
 use Rattle.certificate_law.specs.declared.Node.{Node}
 use Rattle.certificate_law.specs.declared.Node.TheVariants.{Branch, Bound, Farkas, Cross}
-use Rattle.cert_check_law.specs.Fits.{IsRowVector, IsColumnVector}
+use Rattle.certificate_law.specs.Fits.{IsRowVector, IsColumnVector}
 
 -- a node's columns are the program's, and its vectors have its lengths
 abbrev pub HasNodeSizes : Program → Node → Type 0

@@ -2,12 +2,11 @@
 use Rattle.std.specs.Prelude.{ℕ, zero, suc, ◌*◌, ℤ, pos, negsuc, ◌-ℤ◌, List, [], ◌∷◌, ◌++◌, Option, Some, None, Bool, IsSome, if◌then◌else◌}
 use Rattle.rational.specs.Rational.{ℚ, whole}
 use Rattle.rational.specs.Rounding.{floor_of, ceiling_of}
-use Rattle.program_law.specs.Region.{Region}
+use Rattle.program_law.specs.Region.{Region, bounds_at}
 use Rattle.program_law.specs.Program.{Program}
 use Rattle.program_law.specs.Point.{IsWithin}
 use Rattle.certificate_law.specs.declared.Node.{Node}
 use Rattle.certificate_law.specs.declared.Node.TheVariants.{Branch, Bound, Farkas, Cross}
-use Rattle.cert_check_law.specs.Tree.{bounds_at}
 use Rattle.branching_law.specs.declared.Turn.{Turn}
 use Rattle.branching_law.specs.Paths.{below, above}
 use Rattle.branching_law.specs.Rounding.{IsMarkedAt}

@@ -6,7 +6,7 @@ ghost use Rattle.program_law.specs.declared.Square.{Square};
 ghost use Rattle.program_law.specs.Region.{IsCrossedRegion};
 ghost use Rattle.program_law.specs.Program.{Program, IsProgram, bounds, marks};
 ghost use Rattle.certificate_law.specs.declared.Certificate.{Certificate};
-ghost use Rattle.certificate_law.specs.Squares.{AreSquaresOf};
+ghost use Rattle.program_law.specs.Squares.{AreSquaresOf};
 ghost use Rattle.equational_law.specs.Form.{width, form_of};
 ghost use Rattle.quad_solve_law.specs.Sites.{Site};
 ghost use Rattle.branching_law.specs.declared.Turn.{Turn};

@@ -10,7 +10,7 @@ ghost use Rattle.program_law.specs.Columns.{IsRelaxedPoint, value};
 ghost use Rattle.program_law.specs.Verdict.{IsTrueOf};
 ghost use Rattle.certificate_law.specs.declared.Node.{Node};
 ghost use Rattle.certificate_law.specs.declared.Certificate.{Certificate};
-ghost use Rattle.certificate_law.specs.Squares.{AreSquaresOf};
+ghost use Rattle.program_law.specs.Squares.{AreSquaresOf};
 ghost use Rattle.certificate_law.specs.Nodes.{IsOneTree};
 ghost use Rattle.certificate_law.specs.Tree.{IsGoodTree};
 ghost use Rattle.certificate_law.specs.Good.{IsGood, verdict_of};

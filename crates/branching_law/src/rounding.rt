@@ -2,12 +2,11 @@
 
 ghost use Rattle.std.specs.Prelude.{◌≡◌, ◌+◌, ◌≤◌, ℕ, ℤ, List, [], ◌∷◌, ◌++◌, length, Option};
 ghost use Rattle.rational.specs.Rational.{ℚ};
-ghost use Rattle.program_law.specs.Region.{Region, IsCrossedRegion};
+ghost use Rattle.program_law.specs.Region.{Region, IsCrossedRegion, bounds_at};
 ghost use Rattle.program_law.specs.Program.{Program, bounds};
 ghost use Rattle.certificate_law.specs.declared.Node.{Node};
 ghost use Rattle.certificate_law.specs.Nodes.{IsOneTree};
 ghost use Rattle.certificate_law.specs.Tree.{IsGoodTree};
-ghost use Rattle.cert_check_law.specs.Tree.{bounds_at};
 ghost use Rattle.branching_law.specs.declared.Turn.{Turn};
 ghost use Rattle.branching_law.specs.Paths.{region_behind, region_of, below, above};
 ghost use Rattle.branching_law.specs.Rounding.{IsMarkedAt, IsFractional, HasFractionalBound, IsBroken, IsRoundingTurn, AreRoundingTurns, IsRounding, IsRoundingTo, under_rounding};

@@ -3,12 +3,11 @@
 ghost use Rattle.std.specs.Prelude.{◌≡◌, ◌+◌, ℕ, List, [], ◌∷◌, length, position, Some, None};
 ghost use Rattle.std.specs.List.{AllByRecursion};
 ghost use Rattle.rational.specs.Rational.{ℚ};
-ghost use Rattle.program_law.specs.Region.{Region, IsCrossedAt, IsCrossedRegion};
+ghost use Rattle.program_law.specs.Region.{Region, IsCrossedAt, IsCrossedRegion, is_above};
 ghost use Rattle.program_law.specs.Program.{Program, IsProgram, bounds};
 ghost use Rattle.certificate_law.specs.declared.Node.{Node};
 ghost use Rattle.certificate_law.specs.Nodes.{IsOneTree};
-ghost use Rattle.cert_check_law.specs.Tree.{is_above};
-ghost use Rattle.cert_check_law.specs.Fits.{FitsNode, HasNoBound};
+ghost use Rattle.certificate_law.specs.Fits.{FitsNode, HasNoBound};
 ghost use Rattle.branching_law.specs.declared.Turn.{Turn};
 ghost use Rattle.branching_law.specs.Paths.{IsFirst};
 ghost use Rattle.branching_law.specs.Rounding.{AreRoundingTurns, under_rounding};

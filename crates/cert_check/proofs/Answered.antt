@@ -9,7 +9,7 @@ use Rattle.cert_check_law.specs.declared.Event.{Event}
 use Rattle.cert_check_law.specs.declared.Event.TheVariants.{Past, Failed}
 use Rattle.cert_check_law.specs.declared.Checked.TheVariants.{Accepted}
 use Rattle.cert_check_law.specs.Check.{checked, answer}
-use Rattle.cert_check_law.specs.Fits.{Fits}
+use Rattle.certificate_law.specs.Fits.{Fits}
 use Rattle.cert_check_law.proofs.Checks.{no_event_is_good, no_event_is_true}
 
 no_event : (r : Result (Unit {0}) Event) → answer r ≡ Accepted → r ≡ Ok tt

@@ -4,8 +4,8 @@ use Rattle.std.specs.Prelude.{◌≡◌, ℕ, suc, ◌≤◌, List, [], ◌∷�
 use Rattle.rational.specs.Rational.{ℚ}
 use Rattle.program_law.specs.Program.{Program, bounds}
 use Rattle.program_law.specs.Region.{Region, cut_low}
-use Rattle.program_model.specs.declared.descents.Cut.{Cut}
-use Rattle.program_model.specs.Descents.{Descended}
+use Rattle.program_regions.specs.declared.descents.Cut.{Cut}
+use Rattle.program_regions.specs.Descents.{Descended}
 use Rattle.certificate_law.specs.declared.Node.{Node}
 use Rattle.certificate_law.specs.declared.Node.TheVariants.{Branch, Bound, Farkas, Cross}
 use Rattle.certificate_law.specs.declared.Certificate.{Certificate}

@@ -4,9 +4,6 @@
 //! is a good certificate, and its verdict is true of all points of the program.
 #![tactic(auto)]
 
-mod leaves;
-mod rays;
-mod squares;
 mod trees;
 mod walks;
 
@@ -15,18 +12,19 @@ ghost use Rattle.program_law.specs.Program.{bounds};
 ghost use Rattle.program_law.specs.Verdict.{IsTrueOf};
 ghost use Rattle.certificate_law.specs.Good.{IsGood, verdict_of};
 ghost use Rattle.cert_check_law.specs.Check.{checked, answer};
-ghost use Rattle.cert_check_law.specs.Fits.{Fits, FitsSquares, FitsTree, IsColumnVector};
+ghost use Rattle.certificate_law.specs.Fits.{Fits, FitsSquares, FitsTree, IsColumnVector};
 ghost use Rattle.cert_check.specs.Walk.{IsStart, branches, branches_of};
 ghost use Rattle.certificate_law.specs.declared.Certificate.TheVariants as Of;
 
 use cert_check_law::{Checked, Event};
 use certificate_law::{Certificate, Tree};
-use check_steps::{answered, is_negative, same, tested};
+use check_parts::{ray_tested, squares_tested};
+use check_steps::{answered, tested};
 use frac_core::{Frac, Memory, Vector};
+use program_data::Program;
 use program_law::Squares;
-use program_model::{Descent, Program, Region, form, point_tested, value};
-use rays::ray_tested;
-use squares::squares_tested;
+use program_model::{form, point_tested, value};
+use program_regions::{Descent, Region};
 use std::alloc::Global;
 use trees::{branch_count, tree_tested};
 use walks::Walk;
@@ -58,7 +56,7 @@ fn optimal_checked(
 {
     point_tested(p, walk.region(), x)?;
     let calculated = answered(value(p, x))?;
-    tested(same(calculated, v), 4, 0)?;
+    tested(calculated == v, 4, 0)?;
     squares_tested(p, squares)?;
     tree_tested(p, &Some(v), tree, walk)
 }
@@ -86,7 +84,7 @@ fn not_convex_checked(p: &Program, x: &Vector<Frac>) -> Result<(), Event>
     ensures { result ≡ checked p.now (Of.NotConvex x.now) }
 {
     let form = form(p, x)?;
-    tested(is_negative(form), 15, 0)
+    tested(form.is_negative(), 15, 0)
 }
 
 fn checked(p: &Program, c: &Certificate, walk: &mut Walk) -> Result<(), Event>

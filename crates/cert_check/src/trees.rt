@@ -4,17 +4,18 @@ ghost use Rattle.std.specs.Prelude.{◌≡◌, ◌≢◌, ◌<◌, ◌≤◌, �
 ghost use Rattle.std.specs.List.{AllByRecursion};
 ghost use Rattle.rational.specs.Rational.{whole};
 ghost use Rattle.program_law.specs.Program.{bounds, marks};
-ghost use Rattle.cert_check_law.specs.Fits.{FitsNode};
+ghost use Rattle.certificate_law.specs.Fits.{FitsNode};
 ghost use Rattle.cert_check_law.specs.Tree.{branch_step, cross_test, node_step, tree_test};
 ghost use Rattle.cert_check.specs.Walk.{waiting_of, StepLeaves, IsStart, branches};
 
-use crate::leaves::{bound_tested, farkas_tested};
 use crate::walks::{Walk, branch, next_region};
 use cert_check_law::Event;
 use certificate_law::{Node, Tree};
+use check_parts::{bound_tested, farkas_tested};
 use check_steps::{sum, tested};
 use frac_core::Frac;
-use program_model::{Program, Region, is_crossed};
+use program_data::Program;
+use program_regions::{Region, is_crossed};
 
 // The node at a place.
 fn node_of(tree: &Tree, k: usize) -> &Node

@@ -5,7 +5,7 @@ ghost use Rattle.program_law.specs.Region.{cut_high, cut_low};
 ghost use Rattle.cert_check.specs.Walk.{waiting_of, at_hand};
 
 use frac_core::Frac;
-use program_model::Descent;
+use program_regions::Descent;
 
 /// The region at hand. Each cut on the way to it notes what the low bound is to be cut to in the right half, where that still waits.
 pub type Walk = Descent<Option<Frac>>;

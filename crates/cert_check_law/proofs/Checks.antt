@@ -4,9 +4,9 @@ use Rattle.std.specs.List.{All}
 use Rattle.std.proofs.Common.{sym, ◌∙◌, ap, refl}
 use Rattle.rational.specs.Rational.{ℚ}
 use Rattle.rational.specs.Order.{same_fields, same_fields_lem, same_fields_self}
-use Rattle.program_law.specs.Tests.{is_negative}
+use Rattle.rational.specs.Tests.{is_negative}
 use Rattle.program_law.proofs.Numbers.{negative_below, below_negative}
-use Rattle.program_law.specs.Vectors.{form}
+use Rattle.rational.specs.Vectors.{form}
 use Rattle.program_law.specs.Program.{Program, bounds, bounds_of, IsProgram}
 use Rattle.program_law.specs.Columns.{IsPoint, value}
 use Rattle.certificate_law.specs.declared.Node.{Node}
@@ -24,7 +24,7 @@ use Rattle.cert_check_law.specs.Squares.{squares_test}
 use Rattle.cert_check_law.specs.Tree.{tree_test}
 use Rattle.cert_check_law.specs.Ray.{ray_test}
 use Rattle.cert_check_law.specs.Check.{checked}
-use Rattle.cert_check_law.specs.Fits.{FitsTree, Fits}
+use Rattle.certificate_law.specs.Fits.{FitsTree, Fits}
 use Rattle.cert_check_law.specs.Entries.{Holds, EndsAs}
 use Rattle.cert_check_law.specs.PointList.{point_list}
 use Rattle.cert_check_law.specs.TreeList.{tree_list}

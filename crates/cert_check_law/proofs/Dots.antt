@@ -12,8 +12,8 @@ use Rattle.frac_core.specs.Dot as fractions
 use Rattle.frac_core.specs.Dot.{dot_ops}
 use Rattle.frac_core.proofs.Operations.{dot_tries}
 use Rattle.frac_core.proofs.Values.{dot_of-value}
-use Rattle.program_law.specs.Tests.{is_zero}
-use Rattle.program_law.specs.Vectors.{dot}
+use Rattle.rational.specs.Tests.{is_zero}
+use Rattle.rational.specs.Vectors.{dot}
 use Rattle.program_law.proofs.Numbers.{zero_is, is_zero_zero}
 use Rattle.cert_check_law.specs.declared.Event.{Event}
 use Rattle.cert_check_law.specs.Chain.{◌>>=◌, answered, op}

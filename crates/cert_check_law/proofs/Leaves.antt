@@ -8,14 +8,15 @@ use Rattle.std.proofs.lemmas.Bool.Decides.{nat_tests}
 use Rattle.rational.specs.Rational.{ℚ, zero_ℚ, ◌+ℚ◌, ◌-ℚ◌, ◌*ℚ◌}
 use Rattle.program_law.proofs.Ring.{ring_by, x0, x1, x2}
 use Rattle.algebra.proofs.Polynomial.{◌⊕◌, num}
-use Rattle.program_law.specs.Tests.{is_zero, is_positive, is_negative}
+use Rattle.rational.specs.Tests.{is_zero, is_positive, is_negative}
 use Rattle.program_law.proofs.Numbers.{zero_between, positive_above, above_positive, le_tested, le_test}
 use Rattle.frac_core.specs.declared.fractions.Op.TheVariants.{Add, Sub, Mul}
 use Rattle.frac_core.specs.declared.fractions.Refused.{Refused}
 use Rattle.frac_core.specs.Operations.{operation}
 use Rattle.frac_core.specs.Dot.{dot_ops}
 use Rattle.program_law.specs.declared.Row.{Row}
-use Rattle.program_law.specs.Vectors.{dot, form, at, row_at, column}
+use Rattle.rational.specs.Vectors.{dot, form, row_at, column}
+use Rattle.rational.specs.Sums.{entry}
 use Rattle.program_law.specs.Region.{Region}
 use Rattle.program_law.specs.Program.{Program, sides}
 use Rattle.program_law.specs.Value.{half}
@@ -110,18 +111,18 @@ rows_listed node sum (y ∷ ys) (s ∷ ss) n =
     (joined (with_side node sum y s) (λ u. with_rows node u ys ss) (multiplier_listed node sum y s) (rows_listed node (sum +ℚ term) ys ss (λ c. shorter y ys s ss (n c))))
 
 module _ (C : Type 0) (node : ℕ) (g : ℕ → Result ℚ Event) (ops : ℕ → List Refused) (slope : ℕ → ℚ) (g_listed : (j : ℕ) → Works C (g j) (ops j) (slope j)) (rows : List (List ℚ)) (y : List ℚ) where
-  column_listed : (j : ℕ) (sum : ℚ) (b : Row) → let s = slope j -ℚ dot (column rows j) y in Listed C (with_column node g rows y j sum b) (with_column_list node ops slope rows y j sum b) (sum +ℚ s *ℚ unwrap_or (side_for s b) zero_ℚ) (HasSide s b)
+  column_listed : (j : ℕ) (sum : ℚ) (b : Row) → let s = slope j -ℚ dot (column j rows) y in Listed C (with_column node g rows y j sum b) (with_column_list node ops slope rows y j sum b) (sum +ℚ s *ℚ unwrap_or (side_for s b) zero_ℚ) (HasSide s b)
   unfolding with_column
   column_listed j sum b =
-      let a = dot (column rows j) y in
-      after (g j) (λ gj. dot_of (column rows j) y >>= λ a. op Sub gj a >>= λ s. with_side node sum s b) (g_listed j)
-      (after (dot_of (column rows j) y) (λ a. op Sub (slope j) a >>= λ s. with_side node sum s b) (dot_listed (column rows j) y)
+      let a = dot (column j rows) y in
+      after (g j) (λ gj. dot_of (column j rows) y >>= λ a. op Sub gj a >>= λ s. with_side node sum s b) (g_listed j)
+      (after (dot_of (column j rows) y) (λ a. op Sub (slope j) a >>= λ s. with_side node sum s b) (dot_listed (column j rows) y)
       (after (op Sub (slope j) a) (λ s. with_side node sum s b) (operated Sub (slope j) a) (multiplier_listed node sum (slope j -ℚ a) b)))
 
   pub columns_listed : (j : ℕ) (sum : ℚ) (bs : Region) → let s = residual_from slope rows y j bs in Listed C (with_columns node g rows y j sum bs) (with_columns_list node ops slope rows y j sum bs) (sum +ℚ sides_sum s bs) (HaveSides s bs)
   columns_listed j sum [] = of_value (Ok sum) (plus_nothing sum zero_ℚ refl) (done sum tt)
   columns_listed j sum (b ∷ bs) =
-      let s = slope j -ℚ dot (column rows j) y in
+      let s = slope j -ℚ dot (column j rows) y in
       let term = s *ℚ unwrap_or (side_for s b) zero_ℚ in
       of_value (with_columns node g rows y j sum (b ∷ bs)) (goes_on sum term (sides_sum (residual_from slope rows y (suc j) bs) bs))
       (joined (with_column node g rows y j sum b) (λ u. with_columns node g rows y (suc j) u bs) (column_listed j sum b)
@@ -149,7 +150,7 @@ farkas_listed p node region y n =
 gradient_listed : {C : Type 0} (p : Program) (w : List ℚ) (j : ℕ) → Works C (gradient_at p.pairs p.costs w j) (gradient_at_ops p w j) (gradient p w j)
 unfolding gradient_at
 gradient_listed p w j =
-    and_then (dot_ops (row_at p.pairs j) w) (operation Add (dot (row_at p.pairs j) w) (at p.costs j) ∷ []) (dot_of (row_at p.pairs j) w) (λ t. op Add t (at p.costs j)) (dot_listed (row_at p.pairs j) w) (operated Add (dot (row_at p.pairs j) w) (at p.costs j))
+    and_then (dot_ops (row_at p.pairs j) w) (operation Add (dot (row_at p.pairs j) w) (entry p.costs j) ∷ []) (dot_of (row_at p.pairs j) w) (λ t. op Add t (entry p.costs j)) (dot_listed (row_at p.pairs j) w) (operated Add (dot (row_at p.pairs j) w) (entry p.costs j))
 
 good_if : (p : Program) (v : Option ℚ) (region : Region) (w y : List ℚ) → HasAllSides p (gradient p w) region y × (reaches v (lower_bound p region w y) ≡ true) → IsGoodFor p v region w y
 good_if p None region w y t = no t.1

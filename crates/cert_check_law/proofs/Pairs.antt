@@ -5,19 +5,20 @@ use Rattle.std.proofs.Common.{arith, sym, subst, ◌∙◌, ap, refl, inl, inr, 
 use Rattle.std.proofs.lemmas.Bool.Decides.{nat_tests}
 use Rattle.rational.specs.Rational.{ℚ, zero_ℚ, ◌+ℚ◌, ◌*ℚ◌}
 use Rattle.rational.specs.Order.{same_fields, same_fields_lem, same_fields_self}
-use Rattle.program_law.specs.Tests.{is_zero}
+use Rattle.rational.specs.Tests.{is_zero}
 use Rattle.program_law.proofs.Ring.{ring_by, x0, x1, x2, x3}
 use Rattle.algebra.proofs.Polynomial.{◌⊕◌, ◌⊗◌, num}
 use Rattle.program_law.proofs.Numbers.{zero_is}
 use Rattle.frac_core.specs.declared.fractions.Op.TheVariants.{Add, Mul}
 use Rattle.frac_core.specs.Operations.{operation}
 use Rattle.program_law.specs.declared.Square.{Square}
-use Rattle.program_law.specs.Vectors.{at, row_at}
+use Rattle.rational.specs.Sums.{entry}
+use Rattle.rational.specs.Vectors.{row_at}
 use Rattle.program_law.specs.Program.{Program, IsProgram}
-use Rattle.certificate_law.specs.Squares.{squares_sum, AreSquaresOf}
+use Rattle.program_law.specs.Squares.{squares_sum, AreSquaresOf}
 use Rattle.cert_check_law.specs.Chain.{◌>>=◌, op, test}
 use Rattle.cert_check_law.specs.Squares.{with_square, squares_from, pair_test, pairs_in_row, pairs_from, squares_test}
-use Rattle.cert_check_law.specs.Fits.{FitsSquares}
+use Rattle.certificate_law.specs.Fits.{FitsSquares}
 use Rattle.cert_check_law.specs.SquaresList.{with_square_ops, squares_from_ops, pair_list, pairs_in_row_list, pairs_from_list, squares_list}
 use Rattle.cert_check_law.proofs.Listed.{Listed, Works, done, joined, after, and_then, converted, of_value, tested, operated}
 use Rattle.cert_check_law.proofs.Products.{either, nothing_right, plus_nothing}
@@ -39,22 +40,22 @@ square_listed {C = C} sum weight a b = by (is_zero a || is_zero b) refl
 sum_listed : {C : Type 0} (sum : ℚ) (ss : List Square) (j k : ℕ) → Works C (squares_from sum ss j k) (squares_from_ops sum ss j k) (sum +ℚ squares_sum ss j k)
 sum_listed sum [] j k = of_value (Ok sum) (plus_nothing sum zero_ℚ refl) (done sum tt)
 sum_listed sum (s ∷ ss) j k =
-    let term = s.weight *ℚ at s.coef j *ℚ at s.coef k in
+    let term = s.weight *ℚ entry s.coef j *ℚ entry s.coef k in
     of_value (squares_from sum (s ∷ ss) j k) (ring_by (sum ∷ term ∷ squares_sum ss j k ∷ []) ((x0 ⊕ x1) ⊕ x2) (x0 ⊕ (x1 ⊕ x2)) refl)
-    (and_then (with_square_ops sum s.weight (at s.coef j) (at s.coef k)) (squares_from_ops (sum +ℚ term) ss j k) (with_square sum s.weight (at s.coef j) (at s.coef k)) (λ t. squares_from t ss j k) (square_listed sum s.weight (at s.coef j) (at s.coef k))
+    (and_then (with_square_ops sum s.weight (entry s.coef j) (entry s.coef k)) (squares_from_ops (sum +ℚ term) ss j k) (with_square sum s.weight (entry s.coef j) (entry s.coef k)) (λ t. squares_from t ss j k) (square_listed sum s.weight (entry s.coef j) (entry s.coef k))
     (sum_listed (sum +ℚ term) ss j k))
 
 -- Q and the squares agree at two places
 abbrev Agree : List (List ℚ) → List Square → ℕ → ℕ → Type 0
-Agree q ss j k = at (row_at q j) k ≡ squares_sum ss j k
+Agree q ss j k = entry (row_at q j) k ≡ squares_sum ss j k
 
 pair_listed : {C : Type 0} (q : List (List ℚ)) (ss : List Square) (j k : ℕ) → Listed C (pair_test q ss j k) (pair_list q ss j k) tt (Agree q ss j k)
 unfolding pair_test
 pair_listed q ss j k =
-    let t = squares_sum ss j k in let entry = at (row_at q j) k in
-    after (squares_from zero_ℚ ss j k) (λ t. test (same_fields t entry) 5 (suc j))
+    let t = squares_sum ss j k in let there = entry (row_at q j) k in
+    after (squares_from zero_ℚ ss j k) (λ t. test (same_fields t there) 5 (suc j))
     (of_value (squares_from zero_ℚ ss j k) (ring_by (t ∷ []) (num (pos 0) ⊕ x0) x0 refl) (sum_listed zero_ℚ ss j k))
-    (tested (same_fields t entry) 5 (suc j) (λ e. sym (same_fields_lem t entry e))
+    (tested (same_fields t there) 5 (suc j) (λ e. sym (same_fields_lem t there e))
     (λ e. same_fields_self t _ (sym e)))
 
 -- in so many places of a row, and in so many rows
@@ -113,7 +114,7 @@ in_all q ss j (suc more) a b h low le high =
     ]
 
 -- ---- past the columns there is 0 on both sides
-past_end : (xs : List ℚ) (k : ℕ) → length xs ≤ k → at xs k ≡ zero_ℚ
+past_end : (xs : List ℚ) (k : ℕ) → length xs ≤ k → entry xs k ≡ zero_ℚ
 past_end [] k h = refl
 past_end (x ∷ xs) zero h = absurd (omega (arith, h))
 past_end (x ∷ xs) (suc k) h = past_end xs k (omega (arith, h))
@@ -126,15 +127,15 @@ past_rows (row ∷ q) (suc j) h = past_rows q j (omega (arith, h))
 sum_past : (c : ℕ) (ss : List Square) (j k : ℕ) → AllByRecursion (λ s. length s.coef ≡ c) ss → c ≤ k → squares_sum ss j k ≡ zero_ℚ
 sum_past c [] j k w h = refl
 sum_past c (s ∷ ss) j k w h =
-    ap (λ z. s.weight *ℚ at s.coef j *ℚ z +ℚ squares_sum ss j k) (past_end s.coef k (omega (arith, w.0)))
-    ∙ ap (λ z. s.weight *ℚ at s.coef j *ℚ zero_ℚ +ℚ z) (sum_past c ss j k w.1 h)
-    ∙ ring_by ((s.weight *ℚ at s.coef j) ∷ []) (x0 ⊗ num (pos 0) ⊕ num (pos 0)) (num (pos 0)) refl
+    ap (λ z. s.weight *ℚ entry s.coef j *ℚ z +ℚ squares_sum ss j k) (past_end s.coef k (omega (arith, w.0)))
+    ∙ ap (λ z. s.weight *ℚ entry s.coef j *ℚ zero_ℚ +ℚ z) (sum_past c ss j k w.1 h)
+    ∙ ring_by ((s.weight *ℚ entry s.coef j) ∷ []) (x0 ⊗ num (pos 0) ⊕ num (pos 0)) (num (pos 0)) refl
 
 sum_turned : (ss : List Square) (j k : ℕ) → squares_sum ss j k ≡ squares_sum ss k j
 sum_turned [] j k = refl
 sum_turned (s ∷ ss) j k =
-    ap (λ z. s.weight *ℚ at s.coef j *ℚ at s.coef k +ℚ z) (sum_turned ss j k)
-    ∙ ring_by (s.weight ∷ at s.coef j ∷ at s.coef k ∷ squares_sum ss k j ∷ []) (x0 ⊗ x1 ⊗ x2 ⊕ x3) (x0 ⊗ x2 ⊗ x1 ⊕ x3) refl
+    ap (λ z. s.weight *ℚ entry s.coef j *ℚ entry s.coef k +ℚ z) (sum_turned ss j k)
+    ∙ ring_by (s.weight ∷ entry s.coef j ∷ entry s.coef k ∷ squares_sum ss k j ∷ []) (x0 ⊗ x1 ⊗ x2 ⊕ x3) (x0 ⊗ x2 ⊗ x1 ⊕ x3) refl
 
 by_recursion : {X : Type 0} (P : X → Type 0) (xs : List X) → All P xs → AllByRecursion P xs
 by_recursion P [] w = tt
@@ -145,7 +146,7 @@ row_width [] c j w = omega arith
 row_width (row ∷ q) c zero w = omega (arith, w.0)
 row_width (row ∷ q) c (suc j) w = row_width q c j w.1
 
-entry_past : (q : List (List ℚ)) (c j k : ℕ) → All (λ row. length row ≡ c) q → c ≤ k → at (row_at q j) k ≡ zero_ℚ
+entry_past : (q : List (List ℚ)) (c j k : ℕ) → All (λ row. length row ≡ c) q → c ≤ k → entry (row_at q j) k ≡ zero_ℚ
 entry_past q c j k w h = past_end (row_at q j) k (omega (arith, row_width q c j (by_recursion (λ row. length row ≡ c) q w)))
 
 -- what agrees at the places k from j on agrees everywhere

@@ -6,7 +6,7 @@ use Rattle.rational.specs.Rational.{ℚ}
 use Rattle.rational.specs.Order.{◌≤ℚ◌}
 use Rattle.program_law.proofs.Numbers.{le_tested, le_test}
 use Rattle.program_law.specs.declared.Row.{Row}
-use Rattle.program_law.specs.Vectors.{dot, times}
+use Rattle.rational.specs.Vectors.{dot, rows_dot}
 use Rattle.program_law.specs.Region.{Region}
 use Rattle.program_law.specs.Program.{Program, sides, marks}
 use Rattle.program_law.specs.Point.{IsWithin}
@@ -70,7 +70,7 @@ row_listed place s row x =
     let tells = within_tells s (dot row x) in
     after (dot_of row x) (λ t. test (is_within s t) 1 place) (dot_listed row x) (tested (is_within s (dot row x)) 1 place tells.0 tells.1)
 
-rows_listed : {C : Type 0} (place : ℕ) (ss : List Row) (rows : List (List ℚ)) (x : List ℚ) → (C → length ss ≡ length rows) → Listed C (rows_within place ss rows x) (rows_within_list place ss rows x) tt (AllWithin ss (times rows x))
+rows_listed : {C : Type 0} (place : ℕ) (ss : List Row) (rows : List (List ℚ)) (x : List ℚ) → (C → length ss ≡ length rows) → Listed C (rows_within place ss rows x) (rows_within_list place ss rows x) tt (AllWithin ss (rows_dot rows x))
 rows_listed place [] [] x n = done tt tt
 rows_listed place [] (row ∷ rows) x n = vacuous tt (λ c. longer row rows (sym (n c)))
 rows_listed place (s ∷ ss) [] x n = vacuous tt (λ c. longer s ss (n c))

@@ -5,14 +5,14 @@ use Rattle.rational.specs.Divisors.{gcd_of}
 use Rattle.rational.specs.Rational.{ℚ, zero_ℚ, whole, ratio, reciprocal, same_ℚ, ◌+ℚ◌, ◌*ℚ◌}
 use Rattle.rational.specs.Order.{same_fields}
 use Rattle.rational.proofs.Field.{*ℚ_comm}
-use Rattle.program_law.specs.Tests.{is_zero}
+use Rattle.rational.specs.Tests.{is_zero}
 use Rattle.program_law.proofs.Ring.{ring_by, x0}
 use Rattle.algebra.proofs.Polynomial.{◌⊕◌, ◌⊗◌, num}
 use Rattle.program_law.proofs.Numbers.{zero_is}
 use Rattle.frac_core.specs.declared.fractions.Op.TheVariants.{Add, Mul, Div}
 use Rattle.frac_core.specs.Operations.{operation}
 use Rattle.frac_core.specs.Dot.{place_ops, dot_ops_from, dot_ops}
-use Rattle.program_law.specs.Vectors.{dot, times, form}
+use Rattle.rational.specs.Vectors.{dot, rows_dot, form}
 use Rattle.program_law.specs.Program.{Program}
 use Rattle.program_law.specs.Value.{half}
 use Rattle.program_law.specs.Columns.{value}
@@ -81,7 +81,7 @@ same_product row xj x = by (is_zero xj) refl
     by true e = nothing_left xj zero_ℚ e ∙ sym (nothing_left xj (dot row x) e)
     by false e = refl
 
-same_ops : (sum : ℚ) (rows : List (List ℚ)) (xs x : List ℚ) → dot_ops_from sum xs (entries rows xs x) ≡ dot_ops_from sum xs (times rows x)
+same_ops : (sum : ℚ) (rows : List (List ℚ)) (xs x : List ℚ) → dot_ops_from sum xs (entries rows xs x) ≡ dot_ops_from sum xs (rows_dot rows x)
 unfolding dot_ops_from
 same_ops sum [] xs x = refl
 same_ops sum (row ∷ rows) [] x = refl
@@ -90,7 +90,7 @@ same_ops sum (row ∷ rows) (xj ∷ xs) x =
     ∙ ap (λ t. place_ops sum xj (dot row x) ++ dot_ops_from (sum +ℚ t) xs (entries rows xs x)) (same_product row xj x)
     ∙ ap (λ l. place_ops sum xj (dot row x) ++ l) (same_ops (sum +ℚ xj *ℚ dot row x) rows xs x)
 
-entries_form : (rows : List (List ℚ)) (xs x : List ℚ) → dot xs (entries rows xs x) ≡ dot (times rows x) xs
+entries_form : (rows : List (List ℚ)) (xs x : List ℚ) → dot xs (entries rows xs x) ≡ dot (rows_dot rows x) xs
 entries_form [] [] x = refl
 entries_form [] (xj ∷ xs) x = refl
 entries_form (row ∷ rows) [] x = refl
@@ -100,7 +100,7 @@ entries_form (row ∷ rows) (xj ∷ xs) x =
 pub form_listed : {C : Type 0} (q : List (List ℚ)) (x : List ℚ) → Works C (form_of q x) (form_of_ops q x) (form q x x)
 unfolding form_of
 form_listed {C = C} q x =
-    and_then (row_products_ops q x x) (dot_ops x (times q x)) (row_products q x x) (λ t. dot_of x t) (entries_listed q x x)
+    and_then (row_products_ops q x x) (dot_ops x (rows_dot q x)) (row_products q x x) (λ t. dot_of x t) (entries_listed q x x)
     (of_value (dot_of x (entries q x x)) (entries_form q x x)
     (subst (λ l. Works C (dot_of x (entries q x x)) l (dot x (entries q x x))) (same_ops zero_ℚ q x x) (dot_listed x (entries q x x))))
 

@@ -3,11 +3,11 @@ use Rattle.std.specs.Prelude.{◌≡◌, ℕ, suc, List, [], ◌∷◌, ◌++◌
 use Rattle.std.proofs.Common.{sym, ◌∙◌, ap, refl}
 use Rattle.rational.specs.Rational.{ℚ, zero_ℚ}
 use Rattle.rational.specs.Order.{◌≤ℚ◌}
-use Rattle.program_law.specs.Tests.{is_zero, is_positive, is_negative, is_le}
+use Rattle.rational.specs.Tests.{is_zero, is_positive, is_negative, is_le}
 use Rattle.program_law.proofs.Numbers.{positive_above, negative_below, above_positive, below_negative, le_tested, lt_tested, zero_is, is_zero_zero}
 use Rattle.rational.proofs.OrderLaws.{not-le_of_lt}
 use Rattle.program_law.specs.declared.Row.{Row}
-use Rattle.program_law.specs.Vectors.{dot, times}
+use Rattle.rational.specs.Vectors.{dot, rows_dot}
 use Rattle.program_law.specs.Program.{Program, sides, bounds}
 use Rattle.certificate_law.specs.Ray.{KeepsSides, AllKeepSides, AreZero, IsRay}
 use Rattle.cert_check_law.specs.Chain.{◌>>=◌, test}
@@ -80,7 +80,7 @@ row_listed place s row d =
     let tells = keeps_tells s (dot row d) in
     after (dot_of row d) (λ t. test (keeps_sides s t) 11 place) (dot_listed row d) (tested (keeps_sides s (dot row d)) 11 place tells.0 tells.1)
 
-rows_listed : {C : Type 0} (place : ℕ) (ss : List Row) (rows : List (List ℚ)) (d : List ℚ) → (C → length ss ≡ length rows) → Listed C (rows_keep place ss rows d) (rows_keep_list place ss rows d) tt (AllKeepSides ss (times rows d))
+rows_listed : {C : Type 0} (place : ℕ) (ss : List Row) (rows : List (List ℚ)) (d : List ℚ) → (C → length ss ≡ length rows) → Listed C (rows_keep place ss rows d) (rows_keep_list place ss rows d) tt (AllKeepSides ss (rows_dot rows d))
 rows_listed place [] [] d n = done tt tt
 rows_listed place [] (row ∷ rows) d n = vacuous tt (λ c. longer row rows (sym (n c)))
 rows_listed place (s ∷ ss) [] d n = vacuous tt (λ c. longer s ss (n c))
@@ -103,7 +103,7 @@ zero_listed place row d =
     after (dot_of row d) (λ t. test (is_zero t) 13 place) (dot_listed row d)
     (tested (is_zero (dot row d)) 13 place (zero_is (dot row d)) (λ e. ap is_zero e ∙ is_zero_zero))
 
-flat_listed : {C : Type 0} (place : ℕ) (rows : List (List ℚ)) (d : List ℚ) → Listed C (rows_flat place rows d) (rows_flat_list place rows d) tt (AreZero (times rows d))
+flat_listed : {C : Type 0} (place : ℕ) (rows : List (List ℚ)) (d : List ℚ) → Listed C (rows_flat place rows d) (rows_flat_list place rows d) tt (AreZero (rows_dot rows d))
 flat_listed place [] d = done tt tt
 flat_listed place (row ∷ rows) d =
     joined (row_flat place row d) (λ _. rows_flat (suc place) rows d) (zero_listed place row d) (flat_listed (suc place) rows d)

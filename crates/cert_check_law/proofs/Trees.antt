@@ -4,21 +4,21 @@ use Rattle.std.specs.List.{AllByRecursion}
 use Rattle.std.proofs.Common.{sym, ◌∙◌, ap, refl}
 use Rattle.rational.specs.Rational.{ℚ, whole, one_ℚ}
 use Rattle.rational.proofs.Field.{whole-+ℤ}
-use Rattle.program_law.specs.Tests.{is_le}
+use Rattle.rational.specs.Tests.{is_le}
 use Rattle.program_law.proofs.Numbers.{lt_tested, lt_test}
 use Rattle.frac_core.specs.declared.fractions.Op.TheVariants.{Add}
 use Rattle.frac_core.specs.Operations.{operation}
 use Rattle.program_law.specs.declared.Row.{Row}
-use Rattle.program_law.specs.Region.{Region, cut_high, cut_low, left_of, right_of, IsCrossed, IsCrossedAt}
-use Rattle.program_law.specs.Program.{Program, sides, marks}
+use Rattle.program_law.specs.Region.{Region, cut_high, cut_low, left_of, right_of, IsCrossed, IsCrossedAt, bounds_at, is_above}
+use Rattle.program_law.specs.Program.{Program, sides, marks, is_marked}
 use Rattle.certificate_law.specs.declared.Node.{Node}
 use Rattle.certificate_law.specs.declared.Node.TheVariants.{Branch, Bound, Farkas, Cross}
 use Rattle.certificate_law.specs.Nodes.{AreTrees}
-use Rattle.certificate_law.specs.Tree.{is_marked, AreGood}
+use Rattle.certificate_law.specs.Tree.{AreGood}
 use Rattle.cert_check_law.specs.Chain.{◌>>=◌, op, test}
 use Rattle.cert_check_law.specs.Leaf.{farkas_test, bound_test}
-use Rattle.cert_check_law.specs.Tree.{bounds_at, is_above, branch_step, cross_test, nodes_from}
-use Rattle.cert_check_law.specs.Fits.{FitsNode}
+use Rattle.cert_check_law.specs.Tree.{branch_step, cross_test, nodes_from}
+use Rattle.certificate_law.specs.Fits.{FitsNode}
 use Rattle.cert_check_law.specs.Entries.{Operation, Test}
 use Rattle.cert_check_law.specs.TreeList.{nodes_list}
 use Rattle.cert_check_law.proofs.Listed.{Listed, done, vacuous, joined, before, turned, of_value, tested, operated}

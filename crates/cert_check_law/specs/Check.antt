@@ -1,7 +1,7 @@
 -- The checking calculation of a certificate, and its answer.
 use Rattle.std.specs.Prelude.{Some, None, Result, Ok, Err}
 use Rattle.rational.specs.Order.{same_fields}
-use Rattle.program_law.specs.Tests.{is_negative}
+use Rattle.rational.specs.Tests.{is_negative}
 use Rattle.program_law.specs.Program.{Program, bounds}
 use Rattle.certificate_law.specs.declared.Certificate.{Certificate}
 use Rattle.certificate_law.specs.declared.Certificate.TheVariants.{Optimal, Infeasible, Unbounded, NotConvex}

@@ -1,8 +1,8 @@
 -- The checking calculation of a certificate as a list of operations and tests. No test of it depends on which operations are past.
 use Rattle.std.specs.Prelude.{List, [], ◌∷◌, ◌++◌, Some, None}
 use Rattle.rational.specs.Order.{same_fields}
-use Rattle.program_law.specs.Tests.{is_negative}
-use Rattle.program_law.specs.Vectors.{form}
+use Rattle.rational.specs.Tests.{is_negative}
+use Rattle.rational.specs.Vectors.{form}
 use Rattle.program_law.specs.Program.{Program, bounds}
 use Rattle.program_law.specs.Columns.{value}
 use Rattle.certificate_law.specs.declared.Certificate.{Certificate}

@@ -1,7 +1,7 @@
 -- The product of two vectors: the sum starts at 0, and each place with both entries not 0 adds its product.
 use Rattle.std.specs.Prelude.{List, [], ◌∷◌, ◌||◌, Result, Ok, if◌then◌else◌}
 use Rattle.rational.specs.Rational.{ℚ, zero_ℚ}
-use Rattle.program_law.specs.Tests.{is_zero}
+use Rattle.rational.specs.Tests.{is_zero}
 use Rattle.frac_core.specs.declared.fractions.Op.TheVariants.{Add, Mul}
 use Rattle.cert_check_law.specs.declared.Event.{Event}
 use Rattle.cert_check_law.specs.Chain.{◌>>=◌, op}

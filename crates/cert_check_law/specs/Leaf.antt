@@ -1,10 +1,11 @@
 -- The tests of a leaf: its multipliers' sides (rule 7), and its number against the value (rule 8) or 0 (rule 9).
 use Rattle.std.specs.Prelude.{ℕ, suc, List, [], ◌∷◌, Option, Some, None, Bool, false, Result, Ok, Err, if◌then◌else◌}
 use Rattle.rational.specs.Rational.{ℚ, zero_ℚ}
-use Rattle.program_law.specs.Tests.{is_zero, is_positive, is_le}
+use Rattle.rational.specs.Tests.{is_zero, is_positive, is_le}
 use Rattle.frac_core.specs.declared.fractions.Op.TheVariants.{Add, Sub, Mul}
 use Rattle.program_law.specs.declared.Row.{Row}
-use Rattle.program_law.specs.Vectors.{at, row_at, column}
+use Rattle.rational.specs.Sums.{entry}
+use Rattle.rational.specs.Vectors.{row_at, column}
 use Rattle.program_law.specs.Region.{Region}
 use Rattle.program_law.specs.Program.{Program, sides}
 use Rattle.certificate_law.specs.Leaf.{side_for}
@@ -32,7 +33,7 @@ with_rows node sum (y ∷ ys) (s ∷ ss) = with_side node sum y s >>= λ u. with
 
 -- g_j at a BOUND leaf: Q_j w + c_j
 unfoldable pub gradient_at : List (List ℚ) → List ℚ → List ℚ → ℕ → Result ℚ Event
-gradient_at pairs costs w j = dot_of (row_at pairs j) w >>= λ t. op Add t (at costs j)
+gradient_at pairs costs w j = dot_of (row_at pairs j) w >>= λ t. op Add t (entry costs j)
 
 -- g_j at a FARKAS leaf
 abbrev pub no_gradient_at : ℕ → Result ℚ Event
@@ -41,7 +42,7 @@ no_gradient_at j = Ok zero_ℚ
 -- the sum with column j: g_j, the column of A times y, their difference, and that times its bound
 unfoldable pub with_column : ℕ → (ℕ → Result ℚ Event) → List (List ℚ) → List ℚ → ℕ → ℚ → Row → Result ℚ Event
 with_column node g rows y j sum b =
-    g j >>= λ gj. dot_of (column rows j) y >>= λ a. op Sub gj a >>= λ s. with_side node sum s b
+    g j >>= λ gj. dot_of (column j rows) y >>= λ a. op Sub gj a >>= λ s. with_side node sum s b
 
 -- the sum with the columns from j on
 abbrev pub with_columns : ℕ → (ℕ → Result ℚ Event) → List (List ℚ) → List ℚ → ℕ → ℚ → Region → Result ℚ Event

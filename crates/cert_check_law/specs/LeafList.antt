@@ -6,9 +6,10 @@ use Rattle.frac_core.specs.declared.fractions.Op.TheVariants.{Add, Sub, Mul}
 use Rattle.frac_core.specs.declared.fractions.Refused.{Refused}
 use Rattle.frac_core.specs.Operations.{operation}
 use Rattle.frac_core.specs.Dot.{dot_ops}
-use Rattle.program_law.specs.Tests.{is_zero, is_positive}
+use Rattle.rational.specs.Tests.{is_zero, is_positive}
 use Rattle.program_law.specs.declared.Row.{Row}
-use Rattle.program_law.specs.Vectors.{dot, form, at, row_at, column}
+use Rattle.rational.specs.Vectors.{dot, form, row_at, column}
+use Rattle.rational.specs.Sums.{entry}
 use Rattle.program_law.specs.Region.{Region}
 use Rattle.program_law.specs.Program.{Program, sides}
 use Rattle.program_law.specs.Value.{half}
@@ -35,7 +36,7 @@ with_rows_list node sum (y ∷ ys) (s ∷ ss) =
 
 -- the operations of g_j at a BOUND leaf, and at a FARKAS leaf
 abbrev pub gradient_at_ops : Program → List ℚ → ℕ → List Refused
-gradient_at_ops p w j = dot_ops (row_at p.pairs j) w ++ operation Add (dot (row_at p.pairs j) w) (at p.costs j) ∷ []
+gradient_at_ops p w j = dot_ops (row_at p.pairs j) w ++ operation Add (dot (row_at p.pairs j) w) (entry p.costs j) ∷ []
 
 abbrev pub no_gradient_ops : ℕ → List Refused
 no_gradient_ops j = []
@@ -43,14 +44,14 @@ no_gradient_ops j = []
 -- column j, on top of a sum: g_j by its operations, the column of A times y, their difference s, and s as a multiplier
 abbrev pub with_column_list : ℕ → (ℕ → List Refused) → (ℕ → ℚ) → List (List ℚ) → List ℚ → ℕ → ℚ → Row → List Entry
 with_column_list node ops g rows y j sum b =
-    let a = dot (column rows j) y in
-    operations (ops j) ++ (operations (dot_ops (column rows j) y) ++ (Operation (operation Sub (g j) a) ∷ with_side_list node sum (g j -ℚ a) b))
+    let a = dot (column j rows) y in
+    operations (ops j) ++ (operations (dot_ops (column j rows) y) ++ (Operation (operation Sub (g j) a) ∷ with_side_list node sum (g j -ℚ a) b))
 
 -- the columns from j on
 abbrev pub with_columns_list : ℕ → (ℕ → List Refused) → (ℕ → ℚ) → List (List ℚ) → List ℚ → ℕ → ℚ → Region → List Entry
 with_columns_list node ops g rows y j sum [] = []
 with_columns_list node ops g rows y j sum (b ∷ bs) =
-    let s = g j -ℚ dot (column rows j) y in
+    let s = g j -ℚ dot (column j rows) y in
     with_column_list node ops g rows y j sum b ++ with_columns_list node ops g rows y (suc j) (sum +ℚ s *ℚ unwrap_or (side_for s b) zero_ℚ) bs
 
 -- the sum S

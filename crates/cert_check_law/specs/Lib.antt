@@ -7,7 +7,6 @@ pub mod Leaf
 pub mod Tree
 pub mod Ray
 pub mod Check
-pub mod Fits
 pub mod Entries
 pub mod ValueList
 pub mod PointList

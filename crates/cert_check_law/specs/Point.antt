@@ -2,7 +2,7 @@
 -- where it is marked (rule 3). Places count from 1.
 use Rattle.std.specs.Prelude.{ℕ, suc, List, [], ◌∷◌, Option, Some, None, Bool, true, ◌&&◌, ◌==◌, Result, Ok, if◌then◌else◌}
 use Rattle.rational.specs.Rational.{ℚ}
-use Rattle.program_law.specs.Tests.{is_le}
+use Rattle.rational.specs.Tests.{is_le}
 use Rattle.program_law.specs.declared.Row.{Row}
 use Rattle.program_law.specs.Region.{Region}
 use Rattle.program_law.specs.Program.{Program, sides, marks}

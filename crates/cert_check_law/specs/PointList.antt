@@ -3,7 +3,7 @@ use Rattle.std.specs.Prelude.{ℕ, suc, List, [], ◌∷◌, ◌++◌, Bool}
 use Rattle.rational.specs.Rational.{ℚ}
 use Rattle.frac_core.specs.Dot.{dot_ops}
 use Rattle.program_law.specs.declared.Row.{Row}
-use Rattle.program_law.specs.Vectors.{dot}
+use Rattle.rational.specs.Vectors.{dot}
 use Rattle.program_law.specs.Region.{Region}
 use Rattle.program_law.specs.Program.{Program, sides, marks}
 use Rattle.cert_check_law.specs.Point.{is_within, keeps_mark}

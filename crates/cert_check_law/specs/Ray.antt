@@ -2,7 +2,7 @@
 -- (rule 13), and c d is below 0 (rule 14).
 use Rattle.std.specs.Prelude.{ℕ, suc, List, [], ◌∷◌, is_none, Bool, not, ◌&&◌, ◌||◌, Result, Ok}
 use Rattle.rational.specs.Rational.{ℚ}
-use Rattle.program_law.specs.Tests.{is_zero, is_positive, is_negative}
+use Rattle.rational.specs.Tests.{is_zero, is_positive, is_negative}
 use Rattle.program_law.specs.declared.Row.{Row}
 use Rattle.program_law.specs.Program.{Program, sides, bounds}
 use Rattle.cert_check_law.specs.declared.Event.{Event}

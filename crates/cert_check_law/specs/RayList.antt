@@ -3,9 +3,9 @@
 use Rattle.std.specs.Prelude.{ℕ, suc, List, [], ◌∷◌, ◌++◌}
 use Rattle.rational.specs.Rational.{ℚ}
 use Rattle.frac_core.specs.Dot.{dot_ops}
-use Rattle.program_law.specs.Tests.{is_zero, is_negative}
+use Rattle.rational.specs.Tests.{is_zero, is_negative}
 use Rattle.program_law.specs.declared.Row.{Row}
-use Rattle.program_law.specs.Vectors.{dot}
+use Rattle.rational.specs.Vectors.{dot}
 use Rattle.program_law.specs.Program.{Program, sides, bounds}
 use Rattle.cert_check_law.specs.Ray.{keeps_sides}
 use Rattle.cert_check_law.specs.Entries.{Entry, operations, Test}

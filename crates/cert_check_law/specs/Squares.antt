@@ -2,10 +2,11 @@
 use Rattle.std.specs.Prelude.{ℕ, zero, suc, List, [], ◌∷◌, length, ◌||◌, Result, Ok, if◌then◌else◌}
 use Rattle.rational.specs.Rational.{ℚ, zero_ℚ}
 use Rattle.rational.specs.Order.{same_fields}
-use Rattle.program_law.specs.Tests.{is_zero}
+use Rattle.rational.specs.Tests.{is_zero}
 use Rattle.frac_core.specs.declared.fractions.Op.TheVariants.{Add, Mul}
 use Rattle.program_law.specs.declared.Square.{Square}
-use Rattle.program_law.specs.Vectors.{at, row_at}
+use Rattle.rational.specs.Sums.{entry}
+use Rattle.rational.specs.Vectors.{row_at}
 use Rattle.program_law.specs.Program.{Program}
 use Rattle.cert_check_law.specs.declared.Event.{Event}
 use Rattle.cert_check_law.specs.Chain.{◌>>=◌, op, test}
@@ -18,11 +19,11 @@ with_square sum weight a b =
 -- the sum with these squares' products at the places j and k
 abbrev pub squares_from : ℚ → List Square → ℕ → ℕ → Result ℚ Event
 squares_from sum [] j k = Ok sum
-squares_from sum (s ∷ ss) j k = with_square sum s.weight (at s.coef j) (at s.coef k) >>= λ t. squares_from t ss j k
+squares_from sum (s ∷ ss) j k = with_square sum s.weight (entry s.coef j) (entry s.coef k) >>= λ t. squares_from t ss j k
 
 -- the places j and k
 unfoldable pub pair_test : List (List ℚ) → List Square → ℕ → ℕ → Result (Unit {0}) Event
-pair_test q squares j k = squares_from zero_ℚ squares j k >>= λ t. test (same_fields t (at (row_at q j) k)) 5 (suc j)
+pair_test q squares j k = squares_from zero_ℚ squares j k >>= λ t. test (same_fields t (entry (row_at q j) k)) 5 (suc j)
 
 -- so many places k, from this one on
 abbrev pub pairs_in_row : List (List ℚ) → List Square → ℕ → ℕ → ℕ → Result (Unit {0}) Event

@@ -5,11 +5,12 @@ use Rattle.rational.specs.Order.{same_fields}
 use Rattle.frac_core.specs.declared.fractions.Op.TheVariants.{Add, Mul}
 use Rattle.frac_core.specs.declared.fractions.Refused.{Refused}
 use Rattle.frac_core.specs.Operations.{operation}
-use Rattle.program_law.specs.Tests.{is_zero}
+use Rattle.rational.specs.Tests.{is_zero}
 use Rattle.program_law.specs.declared.Square.{Square}
-use Rattle.program_law.specs.Vectors.{at, row_at}
+use Rattle.rational.specs.Sums.{entry}
+use Rattle.rational.specs.Vectors.{row_at}
 use Rattle.program_law.specs.Program.{Program}
-use Rattle.certificate_law.specs.Squares.{squares_sum}
+use Rattle.program_law.specs.Squares.{squares_sum}
 use Rattle.cert_check_law.specs.Entries.{Entry, operations, Test}
 
 -- one square's product, on top of a sum: none where an entry is 0
@@ -22,12 +23,12 @@ with_square_ops sum weight a b =
 abbrev pub squares_from_ops : ℚ → List Square → ℕ → ℕ → List Refused
 squares_from_ops sum [] j k = []
 squares_from_ops sum (s ∷ ss) j k =
-    with_square_ops sum s.weight (at s.coef j) (at s.coef k) ++ squares_from_ops (sum +ℚ s.weight *ℚ at s.coef j *ℚ at s.coef k) ss j k
+    with_square_ops sum s.weight (entry s.coef j) (entry s.coef k) ++ squares_from_ops (sum +ℚ s.weight *ℚ entry s.coef j *ℚ entry s.coef k) ss j k
 
 -- the places j and k: the sum is Q_jk (rule 5)
 abbrev pub pair_list : List (List ℚ) → List Square → ℕ → ℕ → List Entry
 pair_list q squares j k =
-    operations (squares_from_ops zero_ℚ squares j k) ++ Test (same_fields (squares_sum squares j k) (at (row_at q j) k)) 5 (suc j) ∷ []
+    operations (squares_from_ops zero_ℚ squares j k) ++ Test (same_fields (squares_sum squares j k) (entry (row_at q j) k)) 5 (suc j) ∷ []
 
 -- so many places k, from this one on
 abbrev pub pairs_in_row_list : List (List ℚ) → List Square → ℕ → ℕ → ℕ → List Entry

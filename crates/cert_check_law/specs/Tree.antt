@@ -1,27 +1,15 @@
 -- The tests of a tree's nodes in preorder, each on the region that waits first: a branch on a marked column (rule 6), a
 -- column with crossing bounds (rule 10), and the leaves. Nodes count from 1.
-use Rattle.std.specs.Prelude.{ℕ, suc, ℤ, List, [], ◌∷◌, Option, Some, None, Bool, false, not, Result, Ok, slice_index_or}
+use Rattle.std.specs.Prelude.{ℕ, suc, ℤ, List, [], ◌∷◌, Option, Bool, Result, Ok}
 use Rattle.rational.specs.Rational.{ℚ, whole, one_ℚ}
-use Rattle.program_law.specs.Tests.{is_le}
 use Rattle.frac_core.specs.declared.fractions.Op.TheVariants.{Add}
-use Rattle.program_law.specs.declared.Row.{Row}
-use Rattle.program_law.specs.Region.{Region, cut_high, cut_low}
-use Rattle.program_law.specs.Program.{Program, marks}
+use Rattle.program_law.specs.Region.{Region, bounds_at, is_above, cut_high, cut_low}
+use Rattle.program_law.specs.Program.{Program, marks, is_marked}
 use Rattle.certificate_law.specs.declared.Node.{Node}
 use Rattle.certificate_law.specs.declared.Node.TheVariants.{Branch, Bound, Farkas, Cross}
-use Rattle.certificate_law.specs.Tree.{is_marked}
 use Rattle.cert_check_law.specs.declared.Event.{Event}
 use Rattle.cert_check_law.specs.Chain.{◌>>=◌, op, test}
 use Rattle.cert_check_law.specs.Leaf.{farkas_test, bound_test}
-
--- the bounds at a column; none where there is no such column
-abbrev pub bounds_at : Region → ℕ → Row
-bounds_at region j = slice_index_or region j (record { low = None; high = None })
-
-abbrev pub is_above : Option ℚ → Option ℚ → Bool
-is_above None h = false
-is_above (Some l) None = false
-is_above (Some l) (Some h) = not (is_le l h)
 
 -- a branch: the regions that wait after it
 unfoldable pub branch_step : List Bool → ℕ → Region → ℕ → ℤ → List Region → Result (List Region) Event

@@ -3,12 +3,10 @@ use Rattle.std.specs.Prelude.{ℕ, suc, List, [], ◌∷◌, ◌++◌, Option}
 use Rattle.rational.specs.Rational.{ℚ, whole, one_ℚ}
 use Rattle.frac_core.specs.declared.fractions.Op.TheVariants.{Add}
 use Rattle.frac_core.specs.Operations.{operation}
-use Rattle.program_law.specs.Region.{Region, left_of, right_of}
-use Rattle.program_law.specs.Program.{Program, marks}
+use Rattle.program_law.specs.Region.{Region, left_of, right_of, bounds_at, is_above}
+use Rattle.program_law.specs.Program.{Program, marks, is_marked}
 use Rattle.certificate_law.specs.declared.Node.{Node}
 use Rattle.certificate_law.specs.declared.Node.TheVariants.{Branch, Bound, Farkas, Cross}
-use Rattle.certificate_law.specs.Tree.{is_marked}
-use Rattle.cert_check_law.specs.Tree.{bounds_at, is_above}
 use Rattle.cert_check_law.specs.LeafList.{farkas_list, bound_list}
 use Rattle.cert_check_law.specs.Entries.{Entry, Operation, Test}
 

@@ -1,7 +1,7 @@
 -- The value of a vector: q_j = Q_j x for each j with x_j not 0, h = x q, h / 2, c x, and (h / 2 + c x) + c0.
 use Rattle.std.specs.Prelude.{pos, List, [], ◌∷◌, Result, Ok, if◌then◌else◌}
 use Rattle.rational.specs.Rational.{ℚ, whole, zero_ℚ}
-use Rattle.program_law.specs.Tests.{is_zero}
+use Rattle.rational.specs.Tests.{is_zero}
 use Rattle.frac_core.specs.declared.fractions.Op.TheVariants.{Add, Div}
 use Rattle.program_law.specs.Program.{Program}
 use Rattle.cert_check_law.specs.declared.Event.{Event}

@@ -6,8 +6,8 @@ use Rattle.frac_core.specs.declared.fractions.Op.TheVariants.{Add, Div}
 use Rattle.frac_core.specs.declared.fractions.Refused.{Refused}
 use Rattle.frac_core.specs.Operations.{operation}
 use Rattle.frac_core.specs.Dot.{dot_ops}
-use Rattle.program_law.specs.Tests.{is_zero}
-use Rattle.program_law.specs.Vectors.{dot, times, form}
+use Rattle.rational.specs.Tests.{is_zero}
+use Rattle.rational.specs.Vectors.{dot, rows_dot, form}
 use Rattle.program_law.specs.Program.{Program}
 use Rattle.program_law.specs.Value.{half}
 use Rattle.cert_check_law.specs.Value.{two}
@@ -20,7 +20,7 @@ row_products_ops (row ∷ rows) (xj ∷ xs) x = (if is_zero xj then [] else dot_
 
 -- the form x^T Q x: the products, and then x times them
 abbrev pub form_of_ops : List (List ℚ) → List ℚ → List Refused
-form_of_ops q x = row_products_ops q x x ++ dot_ops x (times q x)
+form_of_ops q x = row_products_ops q x x ++ dot_ops x (rows_dot q x)
 
 -- half of it
 abbrev pub half_form_ops : List (List ℚ) → List ℚ → List Refused

@@ -14,7 +14,7 @@ ghost use Rattle.cert_check_law.specs.Dot.{dot_of};
 ghost use Rattle.cert_check_law.specs.Check.{checked};
 ghost use Rattle.cert_check_law.specs.Entries.{Holds, EndsAs};
 ghost use Rattle.cert_check_law.specs.CheckList.{check_list};
-ghost use Rattle.cert_check_law.specs.Fits.{Fits};
+ghost use Rattle.certificate_law.specs.Fits.{Fits};
 
 use frac_core::Refused;
 

@@ -2,7 +2,7 @@
 use Rattle.std.proofs.Common.{◌≡◌, ℕ, suc, List, [], ◌∷◌, length, Some, refl, ap, sym}
 use Rattle.std.specs.Prelude.{slice_get}
 use Rattle.std.proofs.lemmas.Option.{get_or_from_slice_get}
-use Rattle.program_model.specs.Named.{names_of}
+use Rattle.named_things.specs.Named.{names_of}
 use Rattle.cert_fields.specs.Names.{name_at}
 
 pub count_names : {A : Type 0} (things : List (List ℕ × A)) → length (names_of things) ≡ length things

@@ -14,7 +14,7 @@ use Rattle.rational.proofs.Wholes.{den-whole}
 use Rattle.rational.proofs.Reciprocals.{fraction_one}
 use Rattle.frac_core.specs.declared.fractions.PartsFault.{PartsFault}
 use Rattle.frac_core.specs.Parts.{max_part}
-use Rattle.frac_core.specs.Signed.{signed}
+use Rattle.word_arithmetic.specs.Signed.{signed}
 use Rattle.frac_core.specs.Quotient.{parts_of}
 use Rattle.mps_tokens.specs.declared.fault.NumberFault.{NumberFault}
 use Rattle.mps_tokens.specs.declared.fault.NumberFault.TheVariants.{NotNumber}

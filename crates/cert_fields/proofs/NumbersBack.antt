@@ -13,7 +13,7 @@ use Rattle.std.proofs.lemmas.List.Sums.{split_at_first, passes_at_first}
 use Rattle.rational.specs.Whole.{cancel_ℤ}
 use Rattle.rational.specs.Rational.{ℚ, fraction, ratio_cross, Fits}
 use Rattle.frac_core.specs.Parts.{max_part}
-use Rattle.frac_core.specs.Signed.{signed, abs-signed}
+use Rattle.word_arithmetic.specs.Signed.{signed, abs-signed}
 use Rattle.frac_core.specs.Text.{text_of}
 use Rattle.mps_tokens.specs.declared.fault.NumberFault.{NumberFault}
 use Rattle.mps_tokens.specs.declared.fault.NumberFault.TheVariants.{NotNumber, Past}

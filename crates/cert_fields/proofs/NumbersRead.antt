@@ -15,7 +15,7 @@ use Rattle.rational.specs.Rational.{ℚ, whole, fraction, fraction_parts, Fits}
 use Rattle.rational.specs.Divisors.{gcd_of, gcd_comm, gcd-zero}
 use Rattle.rational.proofs.Wholes.{as_whole}
 use Rattle.frac_core.specs.Parts.{max_part}
-use Rattle.frac_core.specs.Signed.{signed}
+use Rattle.word_arithmetic.specs.Signed.{signed}
 use Rattle.frac_core.specs.Text.{text_of}
 use Rattle.mps_tokens.specs.declared.fault.NumberFault.TheVariants.{NotNumber}
 use Rattle.cert_fields.specs.Numbers.{is_numeral, is_denominator, is_negative, without_minus, lowest_number, number_from, number_of}

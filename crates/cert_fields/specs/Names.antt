@@ -1,7 +1,7 @@
 -- The names that stand in a certificate: those of the program's columns and rows.
 use Rattle.std.specs.Prelude.{ℕ, List, [], length, slice_index_or}
 use Rattle.program_law.specs.Program.{Program}
-use Rattle.program_model.specs.Named.{names_of}
+use Rattle.named_things.specs.Named.{names_of}
 use Rattle.cert_fields.specs.declared.names.Axis.{Axis}
 use Rattle.cert_fields.specs.declared.names.Axis.TheVariants.{Columns, Rows}
 

@@ -7,7 +7,7 @@ use Rattle.std.specs.Char.{is_ascii_digit}
 use Rattle.std.specs.Str.Parse.{digits_value}
 use Rattle.rational.specs.Rational.{ℚ, fraction}
 use Rattle.frac_core.specs.Parts.{max_part}
-use Rattle.frac_core.specs.Signed.{signed}
+use Rattle.word_arithmetic.specs.Signed.{signed}
 use Rattle.mps_tokens.specs.declared.fault.NumberFault.{NumberFault}
 use Rattle.mps_tokens.specs.declared.fault.NumberFault.TheVariants.{NotNumber, Past}
 use Rattle.cert_fields.specs.Parts.{is_byte}

@@ -4,7 +4,7 @@ ghost use Rattle.std.specs.Prelude.{◌≡◌, ◌<◌, ◌≤◌, length, IfSom
 ghost use Rattle.program_law.specs.Places.{place_of};
 ghost use Rattle.cert_fields.specs.Names.{names_on, count_on, name_at};
 
-use program_model::Program;
+use program_data::Program;
 
 /// What an entry of a list stands for.
 #[derive(Clone, Copy)]

@@ -7,7 +7,7 @@ ghost use Rattle.mps_tokens.specs.declared.fault.NumberFault.TheVariants as faul
 ghost use Rattle.std.specs.Option.{ForSome};
 ghost use Rattle.rational.specs.Rational.{fraction};
 ghost use Rattle.frac_core.specs.Parts.{max_part};
-ghost use Rattle.frac_core.specs.Signed.{signed};
+ghost use Rattle.word_arithmetic.specs.Signed.{signed};
 ghost use Rattle.cert_fields.specs.Numbers.{is_negative, without_minus, is_numeral, is_denominator, lowest_number, number_from, number_of};
 ghost use Rattle.cert_fields.specs.Numerals.{IsCapped, ReadsNumeral};
 

@@ -1,11 +1,2 @@
-pub mod Text
-pub mod Grammar
-pub mod Places
-pub mod Entered
-pub mod Faults
-pub mod Told
-pub mod Reading
-pub mod History
+pub mod Drafts
 pub mod Filled
-pub mod Writable
-pub mod Fronts

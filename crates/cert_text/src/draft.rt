@@ -4,13 +4,14 @@ ghost use Rattle.std.specs.Prelude.{◌≡◌, IfOk, OnOk};
 ghost use Rattle.certificate_law.specs.Nodes.{IsOneTree};
 ghost use Rattle.certificate_law.specs.declared.Certificate.TheVariants as certificates;
 ghost use Rattle.program_law.specs.Changes.{zeros};
-ghost use Rattle.cert_text.specs.Told.{blank, with_item, certificate_told, IsTreeDue};
+ghost use Rattle.cert_text.specs.Drafts.{told};
+ghost use Rattle.cert_text_law.specs.Told.{blank, with_item, certificate_told, IsTreeDue};
 
-use crate::items::{Claim, Item};
 use crate::openings::{NodeList, SquareList, put_at};
+use cert_grammar::{Claim, Item};
 use certificate_law::{Certificate, Node, Tree, TreeBuilder};
 use frac_core::{Frac, Memory, Vector};
-use program_model::Square;
+use program_data::Square;
 use std::alloc::Global;
 
 /// What the lines so far tell.
@@ -45,7 +46,7 @@ fn tree_of(nodes: TreeBuilder) -> Tree
 impl Draft {
     /// Nothing is told.
     pub(crate) fn start(alloc: Global, columns: u32) -> Result<Draft, Memory>
-        ensures { IfOk result (λ draft. draft ≡ blank columns) }
+        ensures { IfOk result (λ draft. told draft ≡ blank columns) }
     {
         let point = zeros(alloc, columns)?;
         let ray = zeros(alloc, columns)?;
@@ -62,7 +63,7 @@ impl Draft {
 
     /// A square is begun.
     fn begin_square(&mut self, alloc: Global, columns: u32, weight: Frac) -> Result<(), Memory>
-        ensures { OnOk result (self.new ≡ with_item columns 0 (Item.Square weight) self.old) }
+        ensures { OnOk result (told self.new ≡ with_item columns 0 (Item.Square weight) (told self.old)) }
     {
         let coef = zeros(alloc, columns)?;
         self.squares.push(Square { weight, coef })
@@ -70,7 +71,7 @@ impl Draft {
 
     /// A BOUND leaf is begun.
     fn begin_bound(&mut self, alloc: Global, columns: u32, rows: u32) -> Result<(), Memory>
-        ensures { OnOk result (self.new ≡ with_item columns rows Item.Bound self.old) }
+        ensures { OnOk result (told self.new ≡ with_item columns rows Item.Bound (told self.old)) }
     {
         let w = zeros(alloc, columns)?;
         let y = zeros(alloc, rows)?;
@@ -79,7 +80,7 @@ impl Draft {
 
     /// A FARKAS leaf is begun.
     fn begin_farkas(&mut self, alloc: Global, rows: u32) -> Result<(), Memory>
-        ensures { OnOk result (self.new ≡ with_item 0 rows Item.Farkas self.old) }
+        ensures { OnOk result (told self.new ≡ with_item 0 rows Item.Farkas (told self.old)) }
     {
         let y = zeros(alloc, rows)?;
         self.nodes.push(Node::Farkas(y))
@@ -93,7 +94,7 @@ impl Draft {
         rows: u32,
         item: Item,
     ) -> Result<(), Memory>
-        ensures { OnOk result (self.new ≡ with_item columns rows item self.old) }
+        ensures { OnOk result (told self.new ≡ with_item columns rows item (told self.old)) }
     {
         match item {
             Item::Value(value) => self.value = value,
@@ -116,7 +117,7 @@ impl Draft {
     /// The certificate that is told.
     pub(crate) fn finish(self, claim: Claim) -> Result<Certificate, Memory>
         requires { IsTreeDue claim self.nodes }
-        ensures { IfOk result (λ c. c ≡ certificate_told claim self) }
+        ensures { IfOk result (λ c. c ≡ certificate_told claim (told self)) }
     {
         let Draft {
             point,

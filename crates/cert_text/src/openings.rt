@@ -1,11 +1,11 @@
 // Lists whose last thing is still being told.
 
 ghost use Rattle.std.specs.Prelude.{◌≡◌, ◌++◌, ◌∷◌, [], slice_set, OnOk, IfOk};
-ghost use Rattle.cert_text.specs.Told.{on_last, with_coef, with_w, with_y};
+ghost use Rattle.cert_text_law.specs.Told.{on_last, with_coef, with_w, with_y};
 
 use certificate_law::{Node, Tree, TreeBuilder};
 use frac_core::{Frac, Memory, Vector};
-use program_model::{Square, Squares};
+use program_data::{Square, Squares};
 use std::alloc::Global;
 use std::marker::Model;
 

@@ -2,36 +2,20 @@
 
 ghost use Rattle.std.specs.Prelude.{◌≡◌, ◌≤◌, ◌^◌, ◌+◌, [], length, IfOk};
 ghost use Rattle.cert_fields.specs.Parts.{pieces_of};
-ghost use Rattle.cert_text.specs.Told.{blank};
+ghost use Rattle.cert_text_law.specs.Told.{blank};
+ghost use Rattle.cert_text.specs.Drafts.{told};
 ghost use Rattle.cert_text.specs.Filled.{Fills};
-ghost use Rattle.cert_text.specs.Reading.{claim_in, read_on, read_of, Reads};
-ghost use Rattle.cert_text.specs.Text.{certificate_text};
-ghost use Rattle.cert_text.specs.Writable.{IsWritable};
+ghost use Rattle.cert_text_law.specs.Reading.{read_on, read_of, Reads};
+ghost use Rattle.cert_grammar.specs.Text.{certificate_text};
+ghost use Rattle.cert_grammar.specs.Writable.{IsWritable};
 
 use crate::draft::Draft;
-use crate::items::Claim;
-use crate::kinds::{CertKind, CertStop};
-use crate::line::read_line;
-use crate::places::Place;
 use cert_fields::split_line;
+use cert_grammar::{CertKind, CertStop, Claim, Place};
+use cert_lines::{claim_in, read_line};
 use certificate_law::Certificate;
-use mps_tokens::{CertificateWord, certificate_word_of};
-use program_model::Program;
+use program_data::Program;
 use std::alloc::Global;
-
-/// The claim of the first line.
-#[tactic(auto, unfolding(crate::specs::Reading::claim_in))]
-fn claim_in(line: &[u8]) -> Option<Claim>
-    ensures { result ≡ claim_in line.now }
-{
-    match certificate_word_of(line)? {
-        CertificateWord::Optimal => Some(Claim::Optimal),
-        CertificateWord::Infeasible => Some(Claim::Infeasible),
-        CertificateWord::Unbounded => Some(Claim::Unbounded),
-        CertificateWord::NotConvex => Some(Claim::NotConvex),
-        _ => None,
-    }
-}
 
 /// What the lines behind the first tell is put into a draft, up to END with nothing behind it.
 fn read_lines(
@@ -44,7 +28,7 @@ fn read_lines(
 ) -> Result<(), CertStop>
     requires text { length text.now ≤ 2 ^ 30 }
     requires line { line ≤ 2 ^ 31 + 1 }
-    requires draft { draft.old ≡ blank (length p.now.columns) }
+    requires draft { told draft.old ≡ blank (length p.now.columns) }
     ensures { Fills (read_on p.now claim line [] (pieces_of text.now)) claim draft.new result }
 {
     let columns = p.columns();
@@ -113,7 +97,7 @@ fn read_text(alloc: Global, p: &Program, text: &[u8], line: u32) -> Result<Certi
 ///
 /// # Errors
 /// `Fault` with the first line at which the text leaves the grammar and how, or `Memory`.
-#[tactic(auto, using(crate::proofs::Accepts::all_writable, crate::proofs::TextBack::all_texts))]
+#[tactic(auto, using(cert_text_law::proofs::Accepts::all_writable, cert_text_law::proofs::TextBack::all_texts))]
 pub fn read_certificate(
     alloc: Global,
     p: &Program,

@@ -5,18 +5,19 @@ use Rattle.rational.specs.Rational.{ℚ, zero_ℚ, ◌+ℚ◌, ◌*ℚ◌}
 use Rattle.rational.specs.Order.{◌≤ℚ◌}
 use Rattle.program_law.proofs.Ring.{ring_by, x0}
 use Rattle.algebra.proofs.Polynomial.{◌⊗◌, num}
-use Rattle.program_law.specs.Tests.{is_positive, is_negative}
+use Rattle.rational.specs.Tests.{is_positive, is_negative}
 use Rattle.rational.proofs.Order.{le_refl, lt_le}
 use Rattle.rational.proofs.OrderLaws.{le_of_eq, add-le-add, le_trans, mul-le-mul_left, mul-le-mul_left_of_nonpos, not-le_of_lt}
 use Rattle.program_law.proofs.Numbers.{positive_above, negative_below, zero_between, zero_is}
 use Rattle.program_law.specs.declared.Row.{Row}
-use Rattle.program_law.specs.Vectors.{dot, times}
+use Rattle.rational.specs.Vectors.{dot, rows_dot}
 use Rattle.program_law.specs.Region.{Region}
 use Rattle.program_law.specs.Program.{Program, sides}
 use Rattle.program_law.specs.Point.{IsWithin}
 use Rattle.program_law.specs.Columns.{AllWithin, IsRelaxedPoint}
 use Rattle.certificate_law.specs.Leaf.{no_gradient, residual, side_for, HasSide, HaveSides, sides_sum, HasAllSides, total, IsGoodFarkas}
-use Rattle.certificate_law.proofs.Sums.{multipliers, along_zero}
+use Rattle.certificate_law.proofs.Multipliers.{multipliers}
+use Rattle.program_law.proofs.Sums.{along_zero}
 
 -- y times the low side is at most y times the value, for y above 0; y times the high side, for y below 0
 low_side : (y : ℚ) (o : Option ℚ) (t : ℚ) → zero_ℚ ≤ℚ y → IsSome o → IfSome o (λ l. l ≤ℚ t) → (y *ℚ unwrap_or o zero_ℚ) ≤ℚ (y *ℚ t)
@@ -45,9 +46,9 @@ sides_le (y ∷ ys) [] ts h w = absurd h
 sides_le (y ∷ ys) (s ∷ ss) [] h w = absurd w
 sides_le (y ∷ ys) (s ∷ ss) (t ∷ ts) h w = add-le-add (one_side y s t h.0 w.0) (sides_le ys ss ts h.1 w.1)
 
-pub total_le : (p : Program) (g : ℕ → ℚ) (region : Region) (y x : List ℚ) → HasAllSides p g region y → IsRelaxedPoint p region x → total p g region y ≤ℚ (dot y (times p.entries x) +ℚ dot (residual p g region y) x)
+pub total_le : (p : Program) (g : ℕ → ℚ) (region : Region) (y x : List ℚ) → HasAllSides p g region y → IsRelaxedPoint p region x → total p g region y ≤ℚ (dot y (rows_dot p.entries x) +ℚ dot (residual p g region y) x)
 total_le p g region y x h point =
-    add-le-add (sides_le y (sides p) (times p.entries x) h.rows point.rows) (sides_le (residual p g region y) region x h.columns point.columns)
+    add-le-add (sides_le y (sides p) (rows_dot p.entries x) h.rows point.rows) (sides_le (residual p g region y) region x h.columns point.columns)
 
 pub farkas : (p : Program) (region : Region) (y : List ℚ) → IsGoodFarkas p region y → (x : List ℚ) → IsRelaxedPoint p region x → ⊥
 farkas p region y good x point =

@@ -15,14 +15,14 @@ use Rattle.program_law.proofs.Numbers.{le_more, le_less, whole_le, falls}
 use Rattle.rational.proofs.Wholes.{den-whole, as_whole}
 use Rattle.program_law.specs.declared.Row.{Row}
 use Rattle.program_law.specs.declared.Square.{Square}
-use Rattle.program_law.specs.Vectors.{dot, times, form}
+use Rattle.rational.specs.Vectors.{dot, rows_dot, form}
 use Rattle.program_law.specs.Program.{Program, sides, bounds, marks}
 use Rattle.program_law.specs.Point.{IsWithin}
 use Rattle.program_law.specs.Value.{half}
 use Rattle.program_law.specs.Columns.{AllWithin, IsWhole, AreWholeOn, IsPoint, value}
-use Rattle.certificate_law.specs.Squares.{AreSquaresOf}
+use Rattle.program_law.specs.Squares.{AreSquaresOf}
 use Rattle.certificate_law.specs.Ray.{KeepsSides, AllKeepSides, AreZero, IsRay}
-use Rattle.certificate_law.proofs.Convex.{weighed, form_is}
+use Rattle.program_law.proofs.Squared.{weighed, form_is}
 
 -- the point k times the direction further on
 pub moved : ℚ → List ℚ → List ℚ → List ℚ
@@ -71,7 +71,7 @@ high_moved k u d (Some l) z h a = le_trans (le_less u z a) h
 keeps_moved : (s : Row) (k u d : ℚ) → zero_ℚ ≤ℚ k → IsWithin s u → KeepsSides s d → IsWithin s (u +ℚ k *ℚ d)
 keeps_moved s k u d z h a = record { low = low_moved k u d s.low z h.low a.low; high = high_moved k u d s.high z h.high a.high }
 
-rows_moved : (ss : List Row) (rows : List (List ℚ)) (k : ℚ) (x d : List ℚ) → zero_ℚ ≤ℚ k → AsLong x d → AllWithin ss (times rows x) → AllKeepSides ss (times rows d) → AllWithin ss (times rows (moved k x d))
+rows_moved : (ss : List Row) (rows : List (List ℚ)) (k : ℚ) (x d : List ℚ) → zero_ℚ ≤ℚ k → AsLong x d → AllWithin ss (rows_dot rows x) → AllKeepSides ss (rows_dot rows d) → AllWithin ss (rows_dot rows (moved k x d))
 rows_moved [] [] k x d z l w a = tt
 rows_moved [] (row ∷ rows) k x d z l w a = w
 rows_moved (s ∷ ss) [] k x d z l w a = w
@@ -154,15 +154,15 @@ weighed_comm (q ∷ qs) w x =
 pub form_comm : (q : List (List ℚ)) (qs : List Square) (w x : List ℚ) → AreSquaresOf q qs → form q w x ≡ form q x w
 form_comm q qs w x s = form_is q qs w x s ∙ weighed_comm qs w x ∙ sym (form_is q qs x w s)
 
-form_moved : (q : List (List ℚ)) (qs : List Square) (k : ℚ) (x d : List ℚ) → AsLong x d → AreSquaresOf q qs → AreZero (times q d) → form q (moved k x d) (moved k x d) ≡ form q x x
+form_moved : (q : List (List ℚ)) (qs : List Square) (k : ℚ) (x d : List ℚ) → AsLong x d → AreSquaresOf q qs → AreZero (rows_dot q d) → form q (moved k x d) (moved k x d) ≡ form q x x
 form_moved q qs k x d l s flat =
     let step : (b : List ℚ) → form q b (moved k x d) ≡ form q b x = λ b.
-    dot_moved k (times q b) x d l
-    ∙ ap (λ z. form q b x +ℚ k *ℚ z) (form_comm q qs b d s ∙ flat_dot (times q d) b flat)
+    dot_moved k (rows_dot q b) x d l
+    ∙ ap (λ z. form q b x +ℚ k *ℚ z) (form_comm q qs b d s ∙ flat_dot (rows_dot q d) b flat)
     ∙ ring_by (form q b x ∷ k ∷ []) (x0 ⊕ x1 ⊗ num (pos 0)) x0 refl in
     step (moved k x d) ∙ form_comm q qs (moved k x d) x s ∙ step x
 
-value_moved : (p : Program) (qs : List Square) (k : ℚ) (x d : List ℚ) → AsLong x d → AreSquaresOf p.pairs qs → AreZero (times p.pairs d) → value p (moved k x d) ≡ value p x +ℚ k *ℚ dot p.costs d
+value_moved : (p : Program) (qs : List Square) (k : ℚ) (x d : List ℚ) → AsLong x d → AreSquaresOf p.pairs qs → AreZero (rows_dot p.pairs d) → value p (moved k x d) ≡ value p x +ℚ k *ℚ dot p.costs d
 value_moved p qs k x d l s flat =
     ap (λ z. half *ℚ z +ℚ dot p.costs (moved k x d) +ℚ p.constant) (form_moved p.pairs qs k x d l s flat)
     ∙ ap (λ z. half *ℚ form p.pairs x x +ℚ z +ℚ p.constant) (dot_moved k p.costs x d l)

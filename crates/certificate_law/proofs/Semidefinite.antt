@@ -8,7 +8,8 @@ use Rattle.algebra.proofs.Polynomial.{◌⊕◌, ◌⊝◌, ◌⊗◌, minus, nu
 use Rattle.rational.proofs.Order.{le_refl, lt_le, square_nonneg, mul_nonneg}
 use Rattle.rational.proofs.OrderLaws.{le_of_eq, add-le-add, le_trans}
 use Rattle.program_law.specs.declared.Square.{Square}
-use Rattle.program_law.specs.Vectors.{dot, times, form, at, row_at, column}
+use Rattle.rational.specs.Vectors.{dot, rows_dot, form, row_at, column}
+use Rattle.rational.specs.Sums.{entry}
 use Rattle.program_law.specs.Region.{Region}
 use Rattle.program_law.specs.Program.{Program}
 use Rattle.program_law.specs.Point.{Point, IsRelaxedIn}
@@ -17,44 +18,24 @@ use Rattle.program_law.specs.Verdict.{columns_of}
 use Rattle.program_law.specs.Columns.{AllWithin}
 use Rattle.program_law.proofs.Bridge.{relaxed_to, value_is}
 use Rattle.certificate_law.specs.Leaf.{IsGoodBound}
-use Rattle.certificate_law.specs.Squares.{squares_sum, ArePositive, AreSquaresOf, IsSemidefinite}
-use Rattle.certificate_law.proofs.Sums.{along_equal, dot_along, form_along, exchange, dot_comm}
-use Rattle.certificate_law.proofs.Convex.{weighed, form_is, halves, half_not_negative, bounded_where}
+use Rattle.program_law.specs.Squares.{squares_sum, ArePositive, AreSquaresOf, IsSemidefinite}
+use Rattle.program_law.proofs.Sums.{along_equal, dot_along, form_along, exchange, dot_comm}
+use Rattle.certificate_law.proofs.Convex.{bounded_where}
+use Rattle.program_law.proofs.Squared.{weighed, form_is, halves, half_not_negative}
 use Rattle.certificate_law.proofs.Rays.{moved, AsLong, dot_moved}
 
--- ---- squares make a semidefinite form
-sum_turned : (ss : List Square) (j k : ℕ) → squares_sum ss j k ≡ squares_sum ss k j
-sum_turned [] j k = refl
-sum_turned (s ∷ ss) j k =
-    ap (λ z. s.weight *ℚ at s.coef j *ℚ at s.coef k +ℚ z) (sum_turned ss j k)
-    ∙ ring_by (s.weight ∷ at s.coef j ∷ at s.coef k ∷ squares_sum ss k j ∷ []) (x0 ⊗ x1 ⊗ x2 ⊕ x3) (x0 ⊗ x2 ⊗ x1 ⊕ x3) refl
-
-weighed_not_negative : (qs : List Square) (u : List ℚ) → ArePositive qs → zero_ℚ ≤ℚ weighed qs u u
-unfolding weighed
-weighed_not_negative [] u p = le_refl zero_ℚ
-weighed_not_negative (q ∷ qs) u p =
-    le_trans (le_of_eq (ring_by [] (num (pos 0)) (num (pos 0) ⊕ num (pos 0)) refl))
-    (add-le-add (mul_nonneg _ _ (lt_le _ _ p.0) (square_nonneg (dot q.coef u))) (weighed_not_negative qs u p.1))
-
-pub squares_semidefinite : (q : List (List ℚ)) (qs : List Square) → AreSquaresOf q qs → IsSemidefinite q
-squares_semidefinite q qs s =
-    record {
-      symmetric = λ j k. s.sum j k ∙ sum_turned qs j k ∙ sym (s.sum k j);
-      not_negative = λ u. subst (λ z. zero_ℚ ≤ℚ z) (sym (form_is q qs u u s)) (weighed_not_negative qs u s.positive);
-    }
-
 -- ---- a symmetric form may be turned
-column_at : (q : List (List ℚ)) (j k : ℕ) → at (column q j) k ≡ at (row_at q k) j
+column_at : (q : List (List ℚ)) (j k : ℕ) → entry (column j q) k ≡ entry (row_at q k) j
 column_at [] j k = refl
 column_at (row ∷ q) j zero = refl
 column_at (row ∷ q) j (suc k) = column_at q j k
 
-turned : (q : List (List ℚ)) (w x : List ℚ) → ((j k : ℕ) → at (row_at q j) k ≡ at (row_at q k) j) → form q w x ≡ form q x w
+turned : (q : List (List ℚ)) (w x : List ℚ) → ((j k : ℕ) → entry (row_at q j) k ≡ entry (row_at q k) j) → form q w x ≡ form q x w
 turned q w x h =
     form_along q w x
-    ∙ along_equal (λ j. dot (row_at q j) w) (λ j. dot (column q j) w) x
-    (λ j. dot_along (row_at q j) w ∙ along_equal (at (row_at q j)) (at (column q j)) w (λ k. h j k ∙ sym (column_at q j k)) ∙ sym (dot_along (column q j) w))
-    ∙ exchange q w x ∙ dot_comm w (times q x)
+    ∙ along_equal (λ j. dot (row_at q j) w) (λ j. dot (column j q) w) x
+    (λ j. dot_along (row_at q j) w ∙ along_equal (entry (row_at q j)) (entry (column j q)) w (λ k. h j k ∙ sym (column_at q j k)) ∙ sym (dot_along (column j q) w))
+    ∙ exchange q w x ∙ dot_comm w (rows_dot q x)
 
 -- ---- and is convex
 abbrev less_one : ℚ
@@ -64,10 +45,10 @@ apart : (q : List (List ℚ)) (w x : List ℚ) → IsSemidefinite q → AsLong x
 apart q w x s l =
     let b = moved less_one x w in
     let at_x : form q b x ≡ form q x x +ℚ less_one *ℚ form q w x =
-    turned q b x s.symmetric ∙ dot_moved less_one (times q x) x w l ∙ ap (λ z. form q x x +ℚ less_one *ℚ z) (turned q x w s.symmetric) in
+    turned q b x s.symmetric ∙ dot_moved less_one (rows_dot q x) x w l ∙ ap (λ z. form q x x +ℚ less_one *ℚ z) (turned q x w s.symmetric) in
     let at_w : form q b w ≡ form q w x +ℚ less_one *ℚ form q w w =
-    turned q b w s.symmetric ∙ dot_moved less_one (times q w) x w l in
-    dot_moved less_one (times q b) x w l
+    turned q b w s.symmetric ∙ dot_moved less_one (rows_dot q w) x w l in
+    dot_moved less_one (rows_dot q b) x w l
     ∙ ap (λ z. z +ℚ less_one *ℚ form q b w) at_x ∙ ap (λ z. (form q x x +ℚ less_one *ℚ form q w x) +ℚ less_one *ℚ z) at_w
     ∙ ring_by (form q x x ∷ form q w x ∷ form q w w ∷ [])
     ((x0 ⊕ minus (num (pos 1)) ⊗ x1) ⊕ minus (num (pos 1)) ⊗ (x1 ⊕ minus (num (pos 1)) ⊗ x2)) (x0 ⊝ (x1 ⊕ x1) ⊕ x2) refl

@@ -5,18 +5,18 @@ use Rattle.std.proofs.Common.{arith, sym, subst, inl, inr, cond}
 use Rattle.std.proofs.lemmas.Int.{ints, by_lt_z}
 use Rattle.rational.specs.Rational.{ℚ, whole}
 use Rattle.rational.specs.Order.{◌≤ℚ◌}
-use Rattle.program_law.specs.Tests.{is_le}
+use Rattle.rational.specs.Tests.{is_le}
 use Rattle.rational.proofs.OrderLaws.{le_trans, not-le_of_lt}
 use Rattle.program_law.proofs.Numbers.{whole_le}
 use Rattle.rational.proofs.Wholes.{as_whole}
 use Rattle.program_law.specs.declared.Square.{Square}
 use Rattle.program_law.specs.Region.{Region, smaller, larger, left_of, right_of, IsCrossedAt}
-use Rattle.program_law.specs.Program.{Program, marks}
+use Rattle.program_law.specs.Program.{Program, marks, is_marked}
 use Rattle.program_law.specs.Columns.{AllWithin, IsWhole, AreWholeOn, IsPoint, value}
 use Rattle.certificate_law.specs.declared.Node.{Node}
 use Rattle.certificate_law.specs.declared.Node.TheVariants.{Branch, Bound, Farkas, Cross}
-use Rattle.certificate_law.specs.Tree.{is_marked, AreGood}
-use Rattle.certificate_law.specs.Squares.{AreSquaresOf}
+use Rattle.certificate_law.specs.Tree.{AreGood}
+use Rattle.program_law.specs.Squares.{AreSquaresOf}
 use Rattle.certificate_law.proofs.Leaves.{farkas}
 use Rattle.certificate_law.proofs.Convex.{bounded}
 

@@ -16,7 +16,7 @@ use Rattle.certificate_law.specs.declared.Certificate.{Certificate}
 use Rattle.certificate_law.specs.declared.Certificate.TheVariants.{Optimal, Infeasible, Unbounded, NotConvex}
 use Rattle.certificate_law.specs.Leaf.{IsGoodBound, IsGoodFarkas}
 use Rattle.certificate_law.specs.Tree.{IsGoodTree}
-use Rattle.certificate_law.specs.Squares.{AreSquaresOf}
+use Rattle.program_law.specs.Squares.{AreSquaresOf}
 use Rattle.certificate_law.specs.Ray.{IsRay}
 use Rattle.certificate_law.specs.Good.{IsGood, verdict_of}
 use Rattle.certificate_law.proofs.Leaves.{farkas}

@@ -5,14 +5,15 @@ use Rattle.rational.specs.Divisors.{gcd_of}
 use Rattle.rational.specs.Rational.{whole, fraction, ratio, neg_ℚ, same_ℚ, zero_ℚ, ◌+ℚ◌, ◌*ℚ◌}
 use Rattle.program_law.proofs.Numbers.{le_tested, lt_tested}
 use Rattle.program_law.specs.declared.Square.{Square}
-use Rattle.program_law.specs.Vectors.{at, row_at}
+use Rattle.rational.specs.Sums.{entry}
+use Rattle.rational.specs.Vectors.{row_at}
 use Rattle.program_law.specs.Region.{left_of, right_of}
 use Rattle.program_law.specs.Program.{bounds}
 use Rattle.program_law.proofs.Worked.{n, minus, first, apart, between}
 use Rattle.certificate_law.specs.declared.Node.TheVariants.{Branch, Bound, Farkas}
 use Rattle.certificate_law.specs.declared.Certificate.TheVariants.{Optimal, Infeasible}
 use Rattle.certificate_law.specs.Leaf.{no_gradient, total, lower_bound}
-use Rattle.certificate_law.specs.Squares.{squares_sum}
+use Rattle.program_law.specs.Squares.{squares_sum}
 use Rattle.certificate_law.specs.Good.{IsGood}
 
 -- ---- x ≤ 1 and x ≥ 2: the multipliers -1 and 1 give 1, and -1 alone gives -1
@@ -49,7 +50,7 @@ first_less = same_ℚ _ _ refl refl
 abbrev first_squares : List Square
 first_squares = record { weight = n 2; coef = n 1 ∷ n 0 ∷ [] } ∷ record { weight = n 8; coef = n 0 ∷ n 1 ∷ [] } ∷ []
 
-first_sum : (j k : ℕ) → at (row_at first.pairs j) k ≡ squares_sum first_squares j k
+first_sum : (j k : ℕ) → entry (row_at first.pairs j) k ≡ squares_sum first_squares j k
 unfolding ◌+ℚ◌ ◌*ℚ◌ neg_ℚ ratio gcd_of whole
 first_sum zero zero = same_ℚ _ _ refl refl
 first_sum zero (suc zero) = same_ℚ _ _ refl refl
@@ -104,7 +105,7 @@ between_right_bound = same_ℚ _ _ refl refl
 abbrev between_squares : List Square
 between_squares = record { weight = n 2; coef = n 1 ∷ [] } ∷ []
 
-between_sum : (j k : ℕ) → at (row_at between.pairs j) k ≡ squares_sum between_squares j k
+between_sum : (j k : ℕ) → entry (row_at between.pairs j) k ≡ squares_sum between_squares j k
 unfolding ◌+ℚ◌ ◌*ℚ◌ neg_ℚ ratio gcd_of whole
 between_sum zero zero = same_ℚ _ _ refl refl
 between_sum zero (suc k) = same_ℚ _ _ refl refl

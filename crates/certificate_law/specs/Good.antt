@@ -3,7 +3,7 @@ use Rattle.std.specs.Prelude.{◌≡◌, List, Some, None}
 use Rattle.rational.specs.Rational.{ℚ, zero_ℚ}
 use Rattle.rational.specs.Order.{◌<ℚ◌}
 use Rattle.program_law.specs.declared.Square.{Square}
-use Rattle.program_law.specs.Vectors.{form}
+use Rattle.rational.specs.Vectors.{form}
 use Rattle.program_law.specs.Program.{Program, bounds}
 use Rattle.program_law.specs.Columns.{IsPoint, value}
 use Rattle.program_law.specs.Verdict as verdict
@@ -12,7 +12,7 @@ use Rattle.certificate_law.specs.declared.Node.{Node}
 use Rattle.certificate_law.specs.declared.Certificate.{Certificate}
 use Rattle.certificate_law.specs.declared.Certificate.TheVariants.{Optimal, Infeasible, Unbounded, NotConvex}
 use Rattle.certificate_law.specs.Tree.{IsGoodTree}
-use Rattle.certificate_law.specs.Squares.{AreSquaresOf}
+use Rattle.program_law.specs.Squares.{AreSquaresOf}
 use Rattle.certificate_law.specs.Ray.{IsRay}
 
 -- x is feasible, its value is v, the squares sum to Q, and the tree is good for v on the program's bounds

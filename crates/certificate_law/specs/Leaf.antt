@@ -2,16 +2,17 @@
 use Rattle.std.specs.Prelude.{◌≡◌, ℕ, suc, List, [], ◌∷◌, Option, IsSome, unwrap_or, true, if◌then◌else◌}
 use Rattle.rational.specs.Rational.{ℚ, zero_ℚ, ◌+ℚ◌, ◌-ℚ◌, ◌*ℚ◌}
 use Rattle.rational.specs.Order.{◌≤ℚ◌, ◌<ℚ◌}
-use Rattle.program_law.specs.Tests.{is_positive, is_negative}
+use Rattle.rational.specs.Tests.{is_positive, is_negative}
 use Rattle.program_law.specs.declared.Row.{Row}
-use Rattle.program_law.specs.Vectors.{dot, form, at, row_at, column}
+use Rattle.rational.specs.Vectors.{dot, form, row_at, column}
+use Rattle.rational.specs.Sums.{entry}
 use Rattle.program_law.specs.Region.{Region}
 use Rattle.program_law.specs.Program.{Program, sides}
 use Rattle.program_law.specs.Value.{half}
 
 -- the gradient at w, Qw + c, at column j
 abbrev pub gradient : Program → List ℚ → ℕ → ℚ
-gradient p w j = dot (row_at p.pairs j) w +ℚ at p.costs j
+gradient p w j = dot (row_at p.pairs j) w +ℚ entry p.costs j
 
 -- at a FARKAS leaf there is none
 abbrev pub no_gradient : ℕ → ℚ
@@ -20,7 +21,7 @@ no_gradient j = zero_ℚ
 -- the residual g - A^T y, for the columns of a region from column j on
 abbrev pub residual_from : (ℕ → ℚ) → List (List ℚ) → List ℚ → ℕ → Region → List ℚ
 residual_from g rows y j [] = []
-residual_from g rows y j (b ∷ bs) = (g j -ℚ dot (column rows j) y) ∷ residual_from g rows y (suc j) bs
+residual_from g rows y j (b ∷ bs) = (g j -ℚ dot (column j rows) y) ∷ residual_from g rows y (suc j) bs
 
 abbrev pub residual : Program → (ℕ → ℚ) → Region → List ℚ → List ℚ
 residual p g region y = residual_from g p.entries y 0 region

@@ -1,14 +1,11 @@
 -- Good trees: a branch stands on a marked column, and each leaf is good on its region.
-use Rattle.std.specs.Prelude.{◌≡◌, ℕ, List, [], ◌∷◌, Option, Some, None, Bool, true, false, slice_index_or}
+use Rattle.std.specs.Prelude.{◌≡◌, ℕ, List, [], ◌∷◌, Option, Some, None, true}
 use Rattle.rational.specs.Rational.{ℚ}
 use Rattle.program_law.specs.Region.{Region, left_of, right_of, IsCrossedAt}
-use Rattle.program_law.specs.Program.{Program, marks}
+use Rattle.program_law.specs.Program.{Program, marks, is_marked}
 use Rattle.certificate_law.specs.declared.Node.{Node}
 use Rattle.certificate_law.specs.declared.Node.TheVariants.{Branch, Bound, Farkas, Cross}
 use Rattle.certificate_law.specs.Leaf.{IsGoodBound, IsGoodFarkas}
-
-abbrev pub is_marked : List Bool → ℕ → Bool
-is_marked ms j = slice_index_or ms j false
 
 -- a BOUND leaf is good for a value; where no value is given there is to be no BOUND leaf
 abbrev pub IsGoodFor : Program → Option ℚ → Region → List ℚ → List ℚ → Type 0

@@ -15,7 +15,7 @@ ghost use Rattle.certificate_law.specs.declared.Node.{Node};
 ghost use Rattle.certificate_law.specs.declared.Certificate.{Certificate};
 ghost use Rattle.certificate_law.specs.Leaf.{IsGoodBound, IsGoodFarkas};
 ghost use Rattle.certificate_law.specs.Tree.{IsGoodTree};
-ghost use Rattle.certificate_law.specs.Squares.{AreSquaresOf, IsSemidefinite};
+ghost use Rattle.program_law.specs.Squares.{AreSquaresOf, IsSemidefinite};
 ghost use Rattle.certificate_law.specs.Ray.{IsRay};
 ghost use Rattle.certificate_law.specs.Good.{IsGood, verdict_of};
 
@@ -80,11 +80,6 @@ pub fn farkas_leaf_leaves_no_point()
 pub fn bound_leaf_bounds()
     ensures { (p : Program) (squares : List Square) (v : ℚ) (region : Region) (w y : List ℚ) (point : Point) →
         AreSquaresOf p.pairs squares → IsGoodBound p v region w y → IsRelaxedIn p region point → v ≤ℚ value_of p point }
-{}
-
-/// Squares with positive weights sum to a semidefinite form.
-pub fn squares_are_semidefinite()
-    ensures { (q : List (List ℚ)) (squares : List Square) → AreSquaresOf q squares → IsSemidefinite q }
 {}
 
 /// No point of a good BOUND leaf's region, whole or not, has a value below the leaf's, where the form is semidefinite.

@@ -13,7 +13,7 @@ use Rattle.rational.proofs.Order.{ordered_rationals}
 use Rattle.rational.proofs.Vectors.{dot-scale_left, entry-column, entry-rows_dot}
 use Rattle.exact_matrix.specs.Grid as grids
 use Rattle.exact_matrix.specs.Grid.{Grid}
-use Rattle.exact_matrix.proofs.EliminationVectors.{rows_dot-unit}
+use Rattle.elimination_law.proofs.Vectors.{rows_dot-unit}
 use Rattle.linear_basis_law.specs.Problem.{IsProblem, width, column_of}
 use Rattle.linear_basis_law.specs.Basis.{IsBasis, unit_basis}
 use Rattle.linear_basis_law.specs.Exchange.{coordinates, exchanged}

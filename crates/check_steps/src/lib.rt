@@ -2,8 +2,6 @@
 #![tactic(auto)]
 
 ghost use Rattle.std.specs.Prelude.{◌≡◌, ◌≢◌, ◌<◌, length, pos, slice_index_or};
-ghost use Rattle.rational.specs.Order.{same_fields};
-ghost use Rattle.program_law.specs.Tests.{is_zero, is_positive, is_negative, is_le};
 ghost use Rattle.cert_check_law.specs.Chain.{answered, op, test};
 ghost use Rattle.frac_core.specs.declared.fractions.Op.TheVariants as Op;
 ghost use Rattle.certificate_law.specs.Leaf.{side_for};
@@ -15,42 +13,6 @@ ghost use Rattle.cert_check_law.specs.Value.{row_product};
 use cert_check_law::Event;
 use frac_core::{Frac, Tried, Vector};
 use program_law::Row;
-use std::cmp::Ordering;
-
-/// Whether a number is 0.
-pub fn is_zero(x: Frac) -> bool
-    ensures { result ≡ is_zero x }
-{
-    x.num() == 0
-}
-
-/// Whether a number is above 0.
-pub fn is_positive(x: Frac) -> bool
-    ensures { result ≡ is_positive x }
-{
-    0 < x.num()
-}
-
-/// Whether a number is below 0.
-pub fn is_negative(x: Frac) -> bool
-    ensures { result ≡ is_negative x }
-{
-    x.num() < 0
-}
-
-/// Whether a number is at most another.
-pub fn at_most(x: Frac, y: Frac) -> bool
-    ensures { result ≡ is_le x y }
-{
-    x.cmp(&y) != Ordering::Greater
-}
-
-/// Whether two numbers are the same.
-pub fn same(x: Frac, y: Frac) -> bool
-    ensures { result ≡ same_fields x y }
-{
-    x == y
-}
 
 /// An operation's result, or the event that it is past.
 pub fn answered(tried: Tried) -> Result<Frac, Event>
@@ -107,23 +69,11 @@ pub fn tested(holds: bool, rule: u8, place: u32) -> Result<(), Event>
 pub fn product_added(total: Frac, a: Frac, b: Frac) -> Result<Frac, Event>
     ensures { result ≡ with_product total a b }
 {
-    if is_zero(a) || is_zero(b) {
+    if a.is_zero() || b.is_zero() {
         return Ok(total);
     }
     let product = product(a, b)?;
     sum(total, product)
-}
-
-/// The product of two vectors.
-pub fn dot(xs: &[Frac], ys: &[Frac]) -> Result<Frac, Event>
-    requires { length xs.now ≡ length ys.now }
-    ensures { result ≡ dot_of xs.now ys.now }
-{
-    let mut total = Frac::whole(0);
-    for i in 0..xs.len() {
-        total = product_added(total, xs[i], ys[i])?;
-    }
-    Ok(total)
 }
 
 /// The entry at a place.
@@ -146,23 +96,11 @@ pub fn dot_with(xs: &[Frac], ys: &Vector<Frac>) -> Result<Frac, Event>
     Ok(total)
 }
 
-/// The product of two vectors.
-pub fn dot_onto(xs: &Vector<Frac>, ys: &[Frac]) -> Result<Frac, Event>
-    requires { length xs.now ≡ length ys.now }
-    ensures { result ≡ dot_of xs.now ys.now }
-{
-    let mut total = Frac::whole(0);
-    for i in 0..ys.len() {
-        total = product_added(total, entry(xs, i), ys[i])?;
-    }
-    Ok(total)
-}
-
 /// The side that a multiplier takes: the low one where it is above 0, else the high one.
 pub fn side_of(y: Frac, sides: Row) -> Option<Frac>
     ensures { result ≡ side_for y sides }
 {
-    if is_positive(y) {
+    if y.is_positive() {
         sides.low
     } else {
         sides.high
@@ -174,7 +112,7 @@ pub fn side_of(y: Frac, sides: Row) -> Option<Frac>
 pub fn side_added(node: u32, total: Frac, y: Frac, sides: Row) -> Result<Frac, Event>
     ensures { result ≡ with_side node total y sides }
 {
-    if is_zero(y) {
+    if y.is_zero() {
         return Ok(total);
     }
     let Some(side) = side_of(y, sides) else {
@@ -193,7 +131,7 @@ pub fn above_low(low: Option<Frac>, x: Frac) -> bool
 {
     match low {
         None => true,
-        Some(low) => at_most(low, x),
+        Some(low) => low.at_most(x),
     }
 }
 
@@ -203,7 +141,7 @@ pub fn below_high(high: Option<Frac>, x: Frac) -> bool
 {
     match high {
         None => true,
-        Some(high) => at_most(x, high),
+        Some(high) => x.at_most(high),
     }
 }
 
@@ -246,7 +184,7 @@ pub fn row_product(row: &[Frac], own: Frac, x: &Vector<Frac>) -> Result<Frac, Ev
     requires { length row.now ≡ length x.now }
     ensures { result ≡ row_product row.now own x.now }
 {
-    if is_zero(own) {
+    if own.is_zero() {
         return Ok(Frac::whole(0));
     }
     dot_with(row, x)

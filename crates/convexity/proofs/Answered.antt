@@ -9,17 +9,17 @@ use Rattle.exact_matrix.specs.declared.systems.Stop.{Stop}
 use Rattle.exact_matrix.specs.declared.systems.Stop.TheVariants.{Memory, Past}
 use Rattle.convexity.specs.declared.Curvature.{Curvature}
 use Rattle.convexity.specs.declared.Curvature.TheVariants.{Squares, Negative}
-use Rattle.convexity.specs.Half.{upper_half}
+use Rattle.symmetric_half.specs.Half.{upper_half}
 use Rattle.exact_matrix.specs.Stops.{Answers, IsAnswerOf}
 use Rattle.convexity.specs.Meaning.{AreFew, HasWidth, IsCurvatureOf}
 use Rattle.convexity.specs.Places.{answer_at, answer_found, squares_of_rows, IsReduced}
 use Rattle.convexity.specs.Reduction.{curvature_of}
 use Rattle.convexity.specs.ReductionCalculation.{squares_from, squares_of}
 use Rattle.convexity.specs.ReductionOperations.{squares_ops}
-use Rattle.convexity.proofs.Entries.{program_symmetric}
+use Rattle.symmetric_half.proofs.Halves.{program_symmetric}
 use Rattle.convexity.proofs.Curved.{curved, curved_width}
 use Rattle.convexity.proofs.Steps.{squares_done, at_start}
-use Rattle.convexity.proofs.Triangles.{length-upper}
+use Rattle.symmetric_half.proofs.Triangles.{length-upper}
 use Rattle.convexity.proofs.Few.{few_of}
 use Rattle.convexity.proofs.Ended.{answer_is_exact, answer_is_within, refusal_is_first}
 

@@ -11,25 +11,26 @@ use Rattle.algebra.proofs.Solver.{ring}
 use Rattle.algebra.proofs.Certificate.{prove, given, scaled, square, weight, ◌⊞◌, ◌⊠◌, ◌⇐◌}
 use Rattle.rational.specs.Rational.{ℚ, zero_ℚ, one_ℚ, neg_ℚ, reciprocal, ◌+ℚ◌, ◌-ℚ◌, ◌*ℚ◌, ◌/ℚ◌, same_cross}
 use Rattle.rational.specs.Order.{rational_cmp, ◌<ℚ◌, ◌≤ℚ◌}
-use Rattle.rational.specs.Vectors.{zeros}
+use Rattle.rational.specs.Vectors.{zeros, row_at, dot, form}
 use Rattle.rational.proofs.Field.{rationals, mul-reciprocal}
 use Rattle.rational.proofs.Order.{ordered_rationals, le_or_lt, le_antisymm, square_nonneg, mul_positive}
 use Rattle.rational.proofs.OrderLaws.{ne_of_lt, not-le_of_lt, reciprocal_positive}
 use Rattle.rational.proofs.Division.{mul-ne-zero}
 use Rattle.rational.proofs.Vectors.{length-zeros, dot-zeros_right}
 use Rattle.program_law.specs.declared.Square.{Square}
-use Rattle.program_law.specs.Tests.{is_positive}
-use Rattle.program_law.specs.Vectors.{at, row_at, dot, form}
+use Rattle.rational.specs.Tests.{is_positive}
+use Rattle.rational.specs.Sums.{entry}
 use Rattle.program_law.proofs.Numbers.{positive_above, above_positive}
-use Rattle.certificate_law.specs.Squares.{squares_sum, ArePositive}
-use Rattle.certificate_law.proofs.Semidefinite.{squares_semidefinite}
-use Rattle.exact_matrix.specs.Elimination.{divided}
+use Rattle.program_law.specs.Squares.{squares_sum, ArePositive}
+use Rattle.program_law.proofs.Squared.{squares_semidefinite}
+use Rattle.elimination_law.specs.Elimination.{divided}
 use Rattle.convexity.specs.declared.Curvature.{Curvature}
 use Rattle.convexity.specs.declared.Curvature.TheVariants.{Squares, Negative}
-use Rattle.convexity.specs.Half.{upper_half, IsHalf, half_at, IsSymmetric}
+use Rattle.symmetric_half.specs.Half.{upper_half, IsHalf, half_at, IsSymmetric}
 use Rattle.convexity.specs.Meaning.{HasWidth, IsCurvatureOf}
 use Rattle.convexity.specs.Reduction.{first_place, tilt, tilted, less_products, with_zero, after_zero, after_square, flat, by_sign, curvature_from, curvature_of}
-use Rattle.convexity.proofs.Entries.{is_half, half-at, at-divided, length-divided, is_half_less, less_at, no_place, place_found}
+use Rattle.symmetric_half.proofs.Halves.{is_half, half-at}
+use Rattle.convexity.proofs.Entries.{at-divided, length-divided, is_half_less, less_at, no_place, place_found}
 use Rattle.convexity.proofs.Forms.{half_form, form_is_half, bordered, half_form_zeros, dot_one, half_form_one, dot_times, half_form_less}
 
 -- what the answer of the upper half of a matrix of n places says
@@ -42,18 +43,18 @@ IsRight n rows (Negative z) = (length z ≡ n) × (half_form rows z <ℚ zero_�
 sum_before : (ss : List Square) (k : ℕ) → squares_sum (map with_zero ss) zero k ≡ zero_ℚ
 sum_before [] k = refl
 sum_before (s ∷ ss) k =
-    ap (λ (t : ℚ). s.weight *ℚ zero_ℚ *ℚ at (zero_ℚ ∷ s.coef) k +ℚ t) (sum_before ss k)
-    ∙ ring rationals (s.weight ∷ at (zero_ℚ ∷ s.coef) k ∷ []) (λ w a. w ⊗ lit 0 ⊗ a ⊕ lit 0 ≐ lit 0) refl
+    ap (λ (t : ℚ). s.weight *ℚ zero_ℚ *ℚ entry (zero_ℚ ∷ s.coef) k +ℚ t) (sum_before ss k)
+    ∙ ring rationals (s.weight ∷ entry (zero_ℚ ∷ s.coef) k ∷ []) (λ w a. w ⊗ lit 0 ⊗ a ⊕ lit 0 ≐ lit 0) refl
 
 sum_beside : (ss : List Square) (j : ℕ) → squares_sum (map with_zero ss) j zero ≡ zero_ℚ
 sum_beside [] j = refl
 sum_beside (s ∷ ss) j =
-    ap (λ (t : ℚ). s.weight *ℚ at (zero_ℚ ∷ s.coef) j *ℚ zero_ℚ +ℚ t) (sum_beside ss j)
-    ∙ ring rationals (s.weight ∷ at (zero_ℚ ∷ s.coef) j ∷ []) (λ w a. w ⊗ a ⊗ lit 0 ⊕ lit 0 ≐ lit 0) refl
+    ap (λ (t : ℚ). s.weight *ℚ entry (zero_ℚ ∷ s.coef) j *ℚ zero_ℚ +ℚ t) (sum_beside ss j)
+    ∙ ring rationals (s.weight ∷ entry (zero_ℚ ∷ s.coef) j ∷ []) (λ w a. w ⊗ a ⊗ lit 0 ⊕ lit 0 ≐ lit 0) refl
 
 sum_later : (ss : List Square) (j k : ℕ) → squares_sum (map with_zero ss) (suc j) (suc k) ≡ squares_sum ss j k
 sum_later [] j k = refl
-sum_later (s ∷ ss) j k = ap (λ (t : ℚ). s.weight *ℚ at s.coef j *ℚ at s.coef k +ℚ t) (sum_later ss j k)
+sum_later (s ∷ ss) j k = ap (λ (t : ℚ). s.weight *ℚ entry s.coef j *ℚ entry s.coef k +ℚ t) (sum_later ss j k)
 
 still_positive : (ss : List Square) → ArePositive ss → ArePositive (map with_zero ss)
 still_positive [] h = tt
@@ -65,7 +66,7 @@ longer n (s ∷ ss) h = (ap suc h.0, longer n ss h.1)
 
 -- ---- carried back over a place
 
-right_after_zero : (n : ℕ) (d : ℚ) (r : List ℚ) (rows : List (List ℚ)) (c : Curvature) → ((k : ℕ) → at (d ∷ r) k ≡ zero_ℚ)
+right_after_zero : (n : ℕ) (d : ℚ) (r : List ℚ) (rows : List (List ℚ)) (c : Curvature) → ((k : ℕ) → entry (d ∷ r) k ≡ zero_ℚ)
     → IsRight n rows c → IsRight (suc n) ((d ∷ r) ∷ rows) (after_zero c)
 right_after_zero n d r rows (Squares ss) e h = (still_positive ss h.0, entries, longer n ss h.2)
   where
@@ -85,26 +86,26 @@ right_after_square : (n : ℕ) (d : ℚ) (r : List ℚ) (rows : List (List ℚ))
     → IsRight n (less_products r (divided d r) rows) c → IsRight (suc n) ((d ∷ r) ∷ rows) (after_square d (divided d r) c)
 right_after_square n d r rows (Squares ss) above l s h = ((above, still_positive ss h.0), entries, (ap suc (length-divided d r ∙ l), longer n ss h.2))
   where
-    row : (k : ℕ) → at r k ≡ d *ℚ at (divided d r) k
+    row : (k : ℕ) → entry r k ≡ d *ℚ entry (divided d r) k
     row k = at-divided d r k (ne_of_lt above)
 
     entries : (j k : ℕ) → half_at ((d ∷ r) ∷ rows) j k ≡ squares_sum (record { weight = d; coef = one_ℚ ∷ divided d r } ∷ map with_zero ss) j k
     entries zero zero =
         ring rationals (d ∷ []) (λ d. d ≐ d ⊗ lit 1 ⊗ lit 1 ⊕ lit 0) refl ∙ ap (λ (t : ℚ). d *ℚ one_ℚ *ℚ one_ℚ +ℚ t) (sym (sum_before ss zero))
     entries zero (suc k) =
-        row k ∙ ring rationals (d ∷ at (divided d r) k ∷ []) (λ d y. d ⊗ y ≐ d ⊗ lit 1 ⊗ y ⊕ lit 0) refl
-        ∙ ap (λ (t : ℚ). d *ℚ one_ℚ *ℚ at (divided d r) k +ℚ t) (sym (sum_before ss (suc k)))
+        row k ∙ ring rationals (d ∷ entry (divided d r) k ∷ []) (λ d y. d ⊗ y ≐ d ⊗ lit 1 ⊗ y ⊕ lit 0) refl
+        ∙ ap (λ (t : ℚ). d *ℚ one_ℚ *ℚ entry (divided d r) k +ℚ t) (sym (sum_before ss (suc k)))
     entries (suc j) zero =
-        row j ∙ ring rationals (d ∷ at (divided d r) j ∷ []) (λ d y. d ⊗ y ≐ d ⊗ y ⊗ lit 1 ⊕ lit 0) refl
-        ∙ ap (λ (t : ℚ). d *ℚ at (divided d r) j *ℚ one_ℚ +ℚ t) (sym (sum_beside ss (suc j)))
+        row j ∙ ring rationals (d ∷ entry (divided d r) j ∷ []) (λ d y. d ⊗ y ≐ d ⊗ y ⊗ lit 1 ⊕ lit 0) refl
+        ∙ ap (λ (t : ℚ). d *ℚ entry (divided d r) j *ℚ one_ℚ +ℚ t) (sym (sum_beside ss (suc j)))
     entries (suc j) (suc k) =
-        let a = half_at rows j k in let y = at (divided d r) j in let z = at (divided d r) k in
+        let a = half_at rows j k in let y = entry (divided d r) j in let z = entry (divided d r) k in
         let less : half_at (less_products r (divided d r) rows) j k ≡ a -ℚ (d *ℚ y) *ℚ z = less_at n d r (divided d r) rows j k l (length-divided d r ∙ l) s row in
         ring rationals (a ∷ d ∷ y ∷ z ∷ []) (λ a d y z. a ≐ d ⊗ y ⊗ z ⊕ (a ⊝ (d ⊗ y) ⊗ z)) refl
         ∙ ap (λ (t : ℚ). d *ℚ y *ℚ z +ℚ t) (sym less ∙ h.1 j k ∙ sym (sum_later ss j k))
 right_after_square n d r rows (Negative z) above l s h =
     let b = dot (divided d r) z in
-    let row : (k : ℕ) → at r k ≡ d *ℚ at (divided d r) k = λ k. at-divided d r k (ne_of_lt above) in
+    let row : (k : ℕ) → entry r k ≡ d *ℚ entry (divided d r) k = λ k. at-divided d r k (ne_of_lt above) in
     let same : half_form ((d ∷ r) ∷ rows) (neg_ℚ b ∷ z) ≡ half_form (less_products r (divided d r) rows) z =
     bordered d r rows (neg_ℚ b) z
     ∙ ap (λ (t : ℚ). (d *ℚ neg_ℚ b +ℚ t) *ℚ neg_ℚ b +ℚ (neg_ℚ b *ℚ t +ℚ half_form rows z)) (dot_times d r (divided d r) z row)
@@ -156,9 +157,9 @@ tilt_falls b c ne = by_test (is_positive c) refl
     by_test false e = rw e (tilt_below b c ne (not_above e))
 
 right_tilted : (n : ℕ) (d : ℚ) (r : List ℚ) (rows : List (List ℚ)) (k : ℕ) → d ≡ zero_ℚ → length r ≡ n → first_place r ≡ Some k
-    → IsRight (suc n) ((d ∷ r) ∷ rows) (Negative (tilted n k (tilt (at r k) (at (row_at rows k) 0))))
+    → IsRight (suc n) ((d ∷ r) ∷ rows) (Negative (tilted n k (tilt (entry r k) (entry (row_at rows k) 0))))
 right_tilted n d r rows k zero_d l e =
-    let b = at r k in let c = at (row_at rows k) 0 in let t = tilt b c in
+    let b = entry r k in let c = entry (row_at rows k) 0 in let t = tilt b c in
     let found = place_found r k e in
     let within : k < n = omega (arith, found.0) in
     let u = slice_set (zeros n) k t in
@@ -181,7 +182,7 @@ right_flat : (n : ℕ) (d : ℚ) (r : List ℚ) (rows : List (List ℚ)) (rest :
     → first_place r ≡ o → IsRight n rows (rest rows) → IsRight (suc n) ((d ∷ r) ∷ rows) (flat n r rows o rest)
 right_flat n d r rows rest None zero_d l e h = right_after_zero n d r rows (rest rows) entries h
   where
-    entries : (k : ℕ) → at (d ∷ r) k ≡ zero_ℚ
+    entries : (k : ℕ) → entry (d ∷ r) k ≡ zero_ℚ
     entries zero = zero_d
     entries (suc k) = no_place r k e
 right_flat n d r rows rest (Some k) zero_d l e h = right_tilted n d r rows k zero_d l e

@@ -10,7 +10,7 @@ use Rattle.algebra.proofs.Solver.{ring}
 use Rattle.algebra.proofs.Ring as laws
 use Rattle.rational.specs.Rational.{ℚ, zero_ℚ, one_ℚ, neg_ℚ, reciprocal, ◌+ℚ◌, ◌*ℚ◌, ◌/ℚ◌}
 use Rattle.rational.specs.Order.{rational_cmp, same_fields, same_fields_lem}
-use Rattle.rational.specs.Vectors.{add_each, scale, zeros}
+use Rattle.rational.specs.Vectors.{add_each, scale, zeros, row_at, dot}
 use Rattle.rational.proofs.Field.{rationals}
 use Rattle.frac_core.specs.Parts.{max_part}
 use Rattle.frac_core.specs.Calculated.{tried_in, and_then, exact_of, ◌>>=◌, answered, operated}
@@ -25,19 +25,20 @@ use Rattle.frac_core.specs.declared.fractions.Tried.TheVariants.{Is, Past}
 use Rattle.frac_core.proofs.Operations.{tries_none, tries_one, tries_then, dot_tries}
 use Rattle.frac_core.proofs.Values.{tried-value, dot_of-value}
 use Rattle.frac_core.proofs.RowLemmas.{less_step-value}
-use Rattle.program_law.specs.Tests.{is_positive}
-use Rattle.program_law.specs.Vectors.{at, row_at, dot}
-use Rattle.exact_matrix.specs.Elimination.{divided}
-use Rattle.exact_matrix.specs.EliminationCalculation.{divide_step, divided_in}
-use Rattle.exact_matrix.specs.EliminationOperations.{division_ops, less_ops}
+use Rattle.rational.specs.Tests.{is_positive}
+use Rattle.rational.specs.Sums.{entry}
+use Rattle.elimination_law.specs.Elimination.{divided}
+use Rattle.elimination_law.specs.Calculation.{divide_step, divided_in}
+use Rattle.elimination_law.specs.Operations.{division_ops, less_ops}
 use Rattle.convexity.specs.declared.Curvature.{Curvature}
 use Rattle.convexity.specs.declared.Curvature.TheVariants.{Squares, Negative}
-use Rattle.convexity.specs.Chain.{row_answered}
-use Rattle.convexity.specs.Half.{upper_half, IsHalf, IsSymmetric}
+use Rattle.symmetric_half.specs.Chain.{row_answered}
+use Rattle.symmetric_half.specs.Half.{upper_half, IsHalf, IsSymmetric}
 use Rattle.convexity.specs.Reduction.{first_place, tilt, tilted, less_products, after_zero, after_square, flat, by_sign, curvature_from, curvature_of}
 use Rattle.convexity.specs.ReductionCalculation.{tilt_in, less_product, less_products_in, after_square_in, flat_in, by_sign_in, squares_from, squares_of}
 use Rattle.convexity.specs.ReductionOperations.{tilt_ops, less_product_ops, less_products_ops, after_square_ops, flat_ops, by_sign_ops, squares_ops_from, squares_ops}
-use Rattle.convexity.proofs.Entries.{is_half, length-divided, is_half_less}
+use Rattle.symmetric_half.proofs.Halves.{is_half}
+use Rattle.convexity.proofs.Entries.{length-divided, is_half_less}
 
 -- these operations in order end with this value, or with the first of them that is past
 abbrev pub Ends : {A : Type 0} → List Refused → A → Result A Refused → Type 0
@@ -202,7 +203,7 @@ module _ (n : ℕ) (d : ℚ) (r : List ℚ) (rows : List (List ℚ)) (ops : List
   ends_flat : (o : Option ℕ) → Ends (ops rows) (exact rows) (calculated rows) → Ends (flat_ops r rows o ops) (flat n r rows o exact) (flat_in n r rows o calculated)
   ends_flat None h = ends_with (ops rows) (exact rows) (calculated rows) after_zero h
   ends_flat (Some k) h =
-      let b = at r k in let c = at (row_at rows k) 0 in
+      let b = entry r k in let c = entry (row_at rows k) 0 in
       ends_with (tilt_ops b c) (tilt b c) (tilt_in b c) (λ t. Negative (tilted n k t)) (ends_tilt b c)
 
 ends_by_sign : (n : ℕ) (d : ℚ) (r : List ℚ) (rows : List (List ℚ)) (o : Ordering) → length r ≡ n → IsHalf n rows

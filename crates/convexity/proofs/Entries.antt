@@ -1,8 +1,6 @@
--- The entries of a matrix by its upper half, and of its rows less a product.
-use Rattle.std.specs.Prelude.{◌≡◌, ℕ, zero, suc, ◌+◌, ◌<◌, List, [], ◌∷◌, drop, length, Option, Some, None, Bool, true, false, option_map, if◌then◌else◌, All}
-use Rattle.std.proofs.Common.{refl, sym, ◌∙◌, ap, subst, arith}
-use Rattle.std.proofs.lemmas.List.{length-drop}
-use Rattle.std.proofs.lemmas.List.Elements.{All-head, All-tail}
+-- The entries of rows divided and less a product.
+use Rattle.std.specs.Prelude.{◌≡◌, ℕ, zero, suc, ◌<◌, List, [], ◌∷◌, length, Option, Some, None, Bool, true, false, option_map, if◌then◌else◌}
+use Rattle.std.proofs.Common.{refl, sym, ◌∙◌, ap, arith}
 use Rattle.algebra.proofs.Polynomial.{minus, ◌⊕◌, ◌⊝◌, ◌⊗◌, ◌≐◌, lit}
 use Rattle.algebra.proofs.Solver.{ring}
 use Rattle.algebra.proofs.Certificate.{prove, scaled, ◌⇐◌}
@@ -12,76 +10,14 @@ use Rattle.rational.specs.Vectors.{add_each, scale}
 use Rattle.rational.proofs.Field.{rationals, mul-reciprocal}
 use Rattle.rational.proofs.Order.{ordered_rationals}
 use Rattle.rational.proofs.Vectors.{length-add_each, length-scale}
-use Rattle.program_law.specs.Program.{Program, IsProgram}
-use Rattle.program_law.specs.Vectors.{at, row_at}
-use Rattle.exact_matrix.specs.Elimination.{divided}
-use Rattle.convexity.specs.Half.{upper_from, upper_half, IsHalf, half_at, IsSymmetric}
+use Rattle.rational.specs.Sums.{entry}
+use Rattle.elimination_law.specs.Elimination.{divided}
+use Rattle.symmetric_half.specs.Half.{IsHalf, half_at}
 use Rattle.convexity.specs.Reduction.{first_place, less_products}
-
--- ---- the upper half of a symmetric matrix has its entries
-
-at-drop : (i : ℕ) (row : List ℚ) (k : ℕ) → at (drop i row) k ≡ at row (i + k)
-at-drop zero row k = ap (λ (m : ℕ). at row m) (omega arith)
-at-drop (suc i) [] k = refl
-at-drop (suc i) (x ∷ row) k = at-drop i row k ∙ ap (λ (m : ℕ). at (x ∷ row) m) (let e : suc (i + k) ≡ suc i + k = omega arith in e)
-
-upper_entry : (i : ℕ) (rows : List (List ℚ)) (j k : ℕ) → ((j k : ℕ) → at (row_at rows j) (i + k) ≡ at (row_at rows k) (i + j))
-    → half_at (upper_from i rows) j k ≡ at (row_at rows j) (i + k)
-upper_entry i [] j k h = refl
-upper_entry i (row ∷ rows) zero k h = at-drop i row k
-upper_entry i (row ∷ rows) (suc j) zero h = at-drop i row (suc j) ∙ h zero (suc j)
-upper_entry i (row ∷ rows) (suc j) (suc k) h =
-    let e : (m : ℕ) → i + suc m ≡ suc i + m = λ m. omega arith in
-    upper_entry (suc i) rows j k
-    (λ j k. ap (λ (m : ℕ). at (row_at rows j) m) (sym (e k)) ∙ h (suc j) (suc k) ∙ ap (λ (m : ℕ). at (row_at rows k) m) (e j))
-    ∙ ap (λ (m : ℕ). at (row_at rows j) m) (sym (e k))
-
-pub half-at : (q : List (List ℚ)) (j k : ℕ) → ((j k : ℕ) → at (row_at q j) k ≡ at (row_at q k) j) → half_at (upper_half q) j k ≡ at (row_at q j) k
-half-at q j k h =
-    let e : (m : ℕ) → 0 + m ≡ m = λ m. omega arith in
-    upper_entry 0 q j k (λ j k. ap (λ (m : ℕ). at (row_at q j) m) (e k) ∙ h j k ∙ ap (λ (m : ℕ). at (row_at q k) m) (sym (e j)))
-    ∙ ap (λ (m : ℕ). at (row_at q j) m) (e k)
-
-upper_is_half : (i m : ℕ) (rows : List (List ℚ)) → length rows ≡ m → All (λ row. length row ≡ i + m) rows → IsHalf m (upper_from i rows)
-upper_is_half i zero [] l h = tt
-upper_is_half i zero (row ∷ rows) l h = absurd (omega arith)
-upper_is_half i (suc m) [] l h = absurd (omega arith)
-upper_is_half i (suc m) (row ∷ rows) l h =
-    let w : length row ≡ i + suc m = All-head (λ row. length row ≡ i + suc m) row rows h in
-    let e : i + suc m ≡ suc i + m = omega arith in (
-      rw length-drop (omega arith),
-      upper_is_half (suc i) m rows (omega arith) (subst (λ (k : ℕ). All (λ row. length row ≡ k) rows) e (All-tail (λ row. length row ≡ i + suc m) row rows h)),
-    )
-
-pub is_half : (q : List (List ℚ)) → IsSymmetric q → IsHalf (length q) (upper_half q)
-is_half q s =
-    let e : length q ≡ 0 + length q = omega arith in
-    upper_is_half 0 (length q) q refl (subst (λ (k : ℕ). All (λ row. length row ≡ k) q) e s.square)
-
--- a program's form
-pub program_symmetric : (p : Program) → IsProgram p → IsSymmetric p.pairs
-program_symmetric p h =
-    record {
-      square = subst (λ (k : ℕ). All (λ row. length row ≡ k) p.pairs) (sym h.pairs_height) h.pairs_width;
-      same = h.symmetric;
-    }
-
--- the entries are those of a symmetric matrix
-pub half_turned : (rows : List (List ℚ)) (j k : ℕ) → half_at rows j k ≡ half_at rows k j
-half_turned [] j k = refl
-half_turned (row ∷ rows) zero zero = refl
-half_turned (row ∷ rows) zero (suc k) = refl
-half_turned (row ∷ rows) (suc j) zero = refl
-half_turned (row ∷ rows) (suc j) (suc k) = half_turned rows j k
-
-pub half_diagonal : (rows : List (List ℚ)) (k : ℕ) → half_at rows k k ≡ at (row_at rows k) 0
-half_diagonal [] k = refl
-half_diagonal (row ∷ rows) zero = refl
-half_diagonal (row ∷ rows) (suc k) = half_diagonal rows k
 
 -- ---- a row divided
 
-pub at-divided : (d : ℚ) (r : List ℚ) (k : ℕ) → ¬ (d ≡ zero_ℚ) → at r k ≡ d *ℚ at (divided d r) k
+pub at-divided : (d : ℚ) (r : List ℚ) (k : ℕ) → ¬ (d ≡ zero_ℚ) → entry r k ≡ d *ℚ entry (divided d r) k
 at-divided d [] k ne = ring rationals (d ∷ []) (λ d. lit 0 ≐ d ⊗ lit 0) refl
 at-divided d (x ∷ r) zero ne =
     prove ordered_rationals (d ∷ x ∷ reciprocal d ∷ []) (λ d x i. x ≐ d ⊗ (x ⊗ i) ⇐ scaled (minus x) (d ⊗ i) (lit 1)) refl (mul-reciprocal d ne)
@@ -93,7 +29,7 @@ length-divided d (x ∷ r) = ap suc (length-divided d r)
 
 -- ---- rows less a product
 
-at-less : (row ps : List ℚ) (t : ℚ) (k : ℕ) → length row ≡ length ps → at (add_each row (scale t ps)) k ≡ at row k +ℚ t *ℚ at ps k
+at-less : (row ps : List ℚ) (t : ℚ) (k : ℕ) → length row ≡ length ps → entry (add_each row (scale t ps)) k ≡ entry row k +ℚ t *ℚ entry ps k
 at-less [] [] t k h = ring rationals (t ∷ []) (λ t. lit 0 ≐ lit 0 ⊕ t ⊗ lit 0) refl
 at-less [] (p ∷ ps) t k h = absurd (omega arith)
 at-less (x ∷ row) [] t k h = absurd (omega arith)
@@ -113,7 +49,7 @@ is_half_less (suc n) (f ∷ r) (y ∷ v) (row ∷ rows) h k s =
 
 -- where r is d times v, the rows lose d v v^T
 pub less_at : (n : ℕ) (d : ℚ) (r v : List ℚ) (rows : List (List ℚ)) (j k : ℕ) → length r ≡ n → length v ≡ n → IsHalf n rows
-    → ((k : ℕ) → at r k ≡ d *ℚ at v k) → half_at (less_products r v rows) j k ≡ half_at rows j k -ℚ (d *ℚ at v j) *ℚ at v k
+    → ((k : ℕ) → entry r k ≡ d *ℚ entry v k) → half_at (less_products r v rows) j k ≡ half_at rows j k -ℚ (d *ℚ entry v j) *ℚ entry v k
 less_at zero d [] [] [] j k h l s e = ring rationals (d ∷ []) (λ d. lit 0 ≐ lit 0 ⊝ (d ⊗ lit 0) ⊗ lit 0) refl
 less_at zero d [] (y ∷ v) rows j k h l s e = absurd (omega arith)
 less_at zero d [] [] (row ∷ rows) j k h l s e = absurd s
@@ -123,12 +59,12 @@ less_at (suc n) d (f ∷ r) [] rows j k h l s e = absurd (omega arith)
 less_at (suc n) d (f ∷ r) (y ∷ v) [] j k h l s e = absurd s
 less_at (suc n) d (f ∷ r) (y ∷ v) (row ∷ rows) zero k h l s e =
     at-less row (y ∷ v) (neg_ℚ f) k (s.0 ∙ sym l)
-    ∙ ap (λ (t : ℚ). at row k +ℚ neg_ℚ t *ℚ at (y ∷ v) k) (e 0)
-    ∙ ring rationals (at row k ∷ d ∷ y ∷ at (y ∷ v) k ∷ []) (λ a d y z. a ⊕ minus (d ⊗ y) ⊗ z ≐ a ⊝ (d ⊗ y) ⊗ z) refl
+    ∙ ap (λ (t : ℚ). entry row k +ℚ neg_ℚ t *ℚ entry (y ∷ v) k) (e 0)
+    ∙ ring rationals (entry row k ∷ d ∷ y ∷ entry (y ∷ v) k ∷ []) (λ a d y z. a ⊕ minus (d ⊗ y) ⊗ z ≐ a ⊝ (d ⊗ y) ⊗ z) refl
 less_at (suc n) d (f ∷ r) (y ∷ v) (row ∷ rows) (suc j) zero h l s e =
     at-less row (y ∷ v) (neg_ℚ f) (suc j) (s.0 ∙ sym l)
-    ∙ ap (λ (t : ℚ). at row (suc j) +ℚ neg_ℚ t *ℚ at v j) (e 0)
-    ∙ ring rationals (at row (suc j) ∷ d ∷ y ∷ at v j ∷ []) (λ a d y z. a ⊕ minus (d ⊗ y) ⊗ z ≐ a ⊝ (d ⊗ z) ⊗ y) refl
+    ∙ ap (λ (t : ℚ). entry row (suc j) +ℚ neg_ℚ t *ℚ entry v j) (e 0)
+    ∙ ring rationals (entry row (suc j) ∷ d ∷ y ∷ entry v j ∷ []) (λ a d y z. a ⊕ minus (d ⊗ y) ⊗ z ≐ a ⊝ (d ⊗ z) ⊗ y) refl
 less_at (suc n) d (f ∷ r) (y ∷ v) (row ∷ rows) (suc j) (suc k) h l s e = less_at n d r v rows j k (omega arith) (omega arith) s.1 (λ k. e (suc k))
 
 -- ---- the first place with an entry
@@ -138,7 +74,7 @@ none_of true None e = (refl, refl)
 none_of true (Some m) e = absurd cc
 none_of false o e = absurd cc
 
-pub no_place : (r : List ℚ) (k : ℕ) → first_place r ≡ None → at r k ≡ zero_ℚ
+pub no_place : (r : List ℚ) (k : ℕ) → first_place r ≡ None → entry r k ≡ zero_ℚ
 no_place [] k h = refl
 no_place (x ∷ r) zero h = same_fields_lem x zero_ℚ (none_of (same_fields x zero_ℚ) (first_place r) h).0
 no_place (x ∷ r) (suc k) h = no_place r k (none_of (same_fields x zero_ℚ) (first_place r) h).1
@@ -162,7 +98,7 @@ later false o k e = absurd (never k cc)
     never : (k : ℕ) → 0 ≡ suc k → ⊥
     never k e = absurd (omega arith)
 
-pub place_found : (r : List ℚ) (k : ℕ) → first_place r ≡ Some k → (k < length r) × (¬ (at r k ≡ zero_ℚ))
+pub place_found : (r : List ℚ) (k : ℕ) → first_place r ≡ Some k → (k < length r) × (¬ (entry r k ≡ zero_ℚ))
 place_found [] k h = absurd cc
 place_found (x ∷ r) zero h = (omega arith, differ_of_same_fields x zero_ℚ (first_of_all (same_fields x zero_ℚ) (first_place r) h))
 place_found (x ∷ r) (suc k) h =

@@ -1,15 +1,15 @@
 -- A reduction gives at most one square for each place.
-use Rattle.std.specs.Prelude.{◌≡◌, ℕ, zero, suc, ◌≤◌, List, [], ◌∷◌, length, Option, Some, None, Result}
+use Rattle.std.specs.Prelude.{ℕ, zero, suc, List, [], ◌∷◌, length, Option, Some, None}
 use Rattle.std.specs.declared.cmp.Ordering.{Ordering}
 use Rattle.std.specs.declared.cmp.Ordering.TheVariants.{Less, Equal, Greater}
 use Rattle.std.proofs.Common.{arith}
 use Rattle.std.proofs.lemmas.List.{length-map}
 use Rattle.rational.specs.Rational.{ℚ, zero_ℚ}
 use Rattle.rational.specs.Order.{rational_cmp}
-use Rattle.exact_matrix.specs.Elimination.{divided}
+use Rattle.elimination_law.specs.Elimination.{divided}
 use Rattle.convexity.specs.declared.Curvature.{Curvature}
 use Rattle.convexity.specs.declared.Curvature.TheVariants.{Squares, Negative}
-use Rattle.convexity.specs.Half.{upper_half}
+use Rattle.symmetric_half.specs.Half.{upper_half}
 use Rattle.convexity.specs.Meaning.{AreFew}
 use Rattle.convexity.specs.Reduction.{first_place, with_zero, less_products, after_zero, after_square, flat, by_sign, curvature_from, curvature_of}
 

@@ -5,6 +5,5 @@ pub mod Ended
 pub mod Onto
 pub mod Steps
 pub mod Answered
-pub mod Triangles
 pub mod WorkedReduction
 pub mod Few

@@ -1,17 +1,16 @@
 -- Rows written one entry after another are the rows of the calculation.
 use Rattle.std.specs.Prelude.{◌≡◌, ◌<◌, List, [], ◌∷◌, ◌++◌, take, drop, length, slice_index_or, slice_set, Result, Ok, Err}
-use Rattle.std.proofs.Common.{refl, sym, subst, ◌∙◌, ap, arith, append_assoc, append-nil, map}
-use Rattle.std.proofs.lemmas.List.{map-id}
+use Rattle.std.proofs.Common.{refl, sym, ◌∙◌, ap, arith, append_assoc, append-nil}
 use Rattle.rational.specs.Rational.{ℚ}
 use Rattle.frac_core.specs.Parts.{max_part}
-use Rattle.frac_core.specs.Row.{Row, Entries, Refusal, IsRow, entry_then, row_less}
+use Rattle.frac_core.specs.Row.{Row, Entries, Refusal, entry_then}
 use Rattle.frac_core.specs.declared.fractions.Refused.{Refused}
 use Rattle.frac_core.specs.declared.fractions.Tried.{Tried}
 use Rattle.frac_core.specs.declared.fractions.Tried.TheVariants.{Is, Past}
-use Rattle.program_law.specs.Vectors.{at}
-use Rattle.exact_matrix.specs.EliminationCalculation.{divide_step, divided_in}
-use Rattle.frac_core.specs.Calculated.{◌>>=◌, answered, Leaves}
-use Rattle.convexity.specs.Chain.{row_answered}
+use Rattle.rational.specs.Sums.{entry}
+use Rattle.elimination_law.specs.Calculation.{divide_step, divided_in}
+use Rattle.frac_core.specs.Calculated.{◌>>=◌, answered}
+use Rattle.symmetric_half.specs.Chain.{row_answered}
 use Rattle.convexity.specs.Onto.{divided_onto}
 
 -- what is written before, and then a row
@@ -42,19 +41,9 @@ alone (Err r) = refl
 pub all_divided : (d : ℚ) (r : List ℚ) → divided_onto d [] r ≡ row_answered (divided_in max_part d r)
 all_divided d r = divided_onto_is d [] r ∙ alone (row_answered (divided_in max_part d r))
 
--- the row that is left of fractions, which are their own numbers
-pub row_left : (result : Result (Unit {0}) Refused) (row : List ℚ) (f : ℚ) (xs ps : List ℚ) → IsRow (λ q. q) result row (row_less max_part f (map (λ q. q) xs) (map (λ q. q) ps))
-    → Leaves row result (row_answered (row_less max_part f xs ps))
-row_left result row f xs ps h =
-    by result (subst (λ (l : List ℚ). IsRow (λ q. q) result row (row_less max_part f l ps)) (map-id xs) (subst (λ (l : List ℚ). IsRow (λ q. q) result row (row_less max_part f (map (λ q. q) xs) l)) (map-id ps) h))
-  where
-    by : (result : Result (Unit {0}) Refused) → IsRow (λ q. q) result row (row_less max_part f xs ps) → Leaves row result (row_answered (row_less max_part f xs ps))
-    by (Ok u) k = ap row_answered k ∙ ap (λ (l : List ℚ). Ok l) (map-id row)
-    by (Err r) k = ap row_answered k
-
 -- the first entry written
 pub divided_start : (row v : List ℚ) (d : ℚ) → 0 < length row → length v ≡ length row → d ≡ slice_index_or row 0 d
-    → (divided_onto d (take 1 (slice_set v 0 d)) (drop 1 row) ≡ divided_onto (at row 0) (at row 0 ∷ []) (drop 1 row)) × (d ≡ at row 0) × (length (slice_set v 0 d) ≡ length row)
+    → (divided_onto d (take 1 (slice_set v 0 d)) (drop 1 row) ≡ divided_onto (entry row 0) (entry row 0 ∷ []) (drop 1 row)) × (d ≡ entry row 0) × (length (slice_set v 0 d) ≡ length row)
 divided_start [] v d h l e = absurd (omega arith)
 divided_start (x ∷ row) [] d h l e = absurd (omega arith)
 divided_start (x ∷ row) (y ∷ v) d h l e = (ap (λ (t : ℚ). divided_onto t (t ∷ []) row) e, e, l)

@@ -9,22 +9,22 @@ use Rattle.std.proofs.Math.ListN.{drop_of_length-le}
 use Rattle.std.proofs.lemmas.List.{drop-set, take_more_set, get_or-set_other, get_or-drop, length-append, take_at, take_all, length-drop, length-take-le}
 use Rattle.rational.specs.Rational.{ℚ, zero_ℚ, one_ℚ, neg_ℚ}
 use Rattle.rational.specs.Order.{rational_cmp, same_fields, same_fields_is, same_fields_self}
-use Rattle.rational.specs.Vectors.{zeros}
+use Rattle.rational.specs.Vectors.{zeros, row_at}
 use Rattle.rational.proofs.Wholes.{num-ne_of_test, num-ne_of_ne}
 use Rattle.frac_core.specs.Parts.{max_part}
 use Rattle.frac_core.specs.Row.{Entries, row_less}
 use Rattle.frac_core.specs.declared.fractions.Refused.{Refused}
 use Rattle.program_law.specs.declared.Square.{Square}
-use Rattle.program_law.specs.Vectors.{at, row_at}
-use Rattle.exact_matrix.specs.EliminationCalculation.{divided_in}
+use Rattle.rational.specs.Sums.{entry}
+use Rattle.elimination_law.specs.Calculation.{divided_in}
 use Rattle.exact_matrix.proofs.Passes.{drop_after_set}
 use Rattle.convexity.specs.declared.Curvature.{Curvature}
 use Rattle.convexity.specs.declared.Curvature.TheVariants.{Squares, Negative}
 use Rattle.frac_core.specs.Calculated.{◌>>=◌, answered}
 use Rattle.frac_core.specs.Dot.{dot_of}
 use Rattle.frac_core.specs.declared.fractions.Tried.{Tried}
-use Rattle.convexity.specs.Chain.{row_answered}
-use Rattle.convexity.specs.Half.{IsHalf}
+use Rattle.symmetric_half.specs.Chain.{row_answered}
+use Rattle.symmetric_half.specs.Half.{IsHalf}
 use Rattle.convexity.specs.Onto.{divided_onto}
 use Rattle.convexity.specs.Places.{after_row, after_rows, answer_at, answer_found, freed_onto, squares_of_rows}
 use Rattle.convexity.specs.Reduction.{first_place, tilted, with_zero, after_zero}
@@ -54,20 +54,20 @@ here j rows h = rw add-one (drop-cons rows j [] h)
 next : (j : ℕ) (rows : List (List ℚ)) → j < length rows → take (j + 1) rows ≡ take j rows ++ row_at rows j ∷ []
 next j rows h = rw add-one (take-suc rows j [] h)
 
-head_tail : (row : List ℚ) → 0 < length row → row ≡ at row 0 ∷ drop 1 row
+head_tail : (row : List ℚ) → 0 < length row → row ≡ entry row 0 ∷ drop 1 row
 head_tail [] h = absurd (omega arith)
 head_tail (x ∷ row) h = refl
 
 -- what the place j comes to, by how its diagonal compares with 0
 abbrev sign_at : Ordering → ℕ → List (List ℚ) → Result Curvature Refused
 sign_at o j rows =
-    by_sign_in o (length rows - (j + 1)) (at (row_at rows j) 0) (drop 1 (row_at rows j)) (drop (j + 1) rows) (λ left. squares_from (length rows - (j + 1)) left)
+    by_sign_in o (length rows - (j + 1)) (entry (row_at rows j) 0) (drop 1 (row_at rows j)) (drop (j + 1) rows) (λ left. squares_from (length rows - (j + 1)) left)
 
 squares_more : (n : ℕ) (d : ℚ) (r : List ℚ) (rows : List (List ℚ)) → squares_from (suc n) ((d ∷ r) ∷ rows) ≡ by_sign_in (rational_cmp d zero_ℚ) n d r rows (λ left. squares_from n left)
 unfolding squares_from
 squares_more n d r rows = refl
 
-answer_here : (o : Ordering) (j : ℕ) (rows : List (List ℚ)) → j < length rows → 0 < length (row_at rows j) → rational_cmp (at (row_at rows j) 0) zero_ℚ ≡ o
+answer_here : (o : Ordering) (j : ℕ) (rows : List (List ℚ)) → j < length rows → 0 < length (row_at rows j) → rational_cmp (entry (row_at rows j) 0) zero_ℚ ≡ o
     → answer_at j rows ≡ after_rows (take j rows) (sign_at o j rows)
 unfolding answer_at
 answer_here o j rows h some e =
@@ -76,7 +76,7 @@ answer_here o j rows h some e =
     ap (after_rows (take j rows))
     (ap (λ (k : ℕ). squares_from k (drop j rows)) n
     ∙ ap (squares_from (suc m)) (here j rows h ∙ ap (λ (r : List ℚ). r ∷ drop (j + 1) rows) (head_tail row some))
-    ∙ squares_more m (at row 0) (drop 1 row) (drop (j + 1) rows)
+    ∙ squares_more m (entry row 0) (drop 1 row) (drop (j + 1) rows)
     ∙ ap (λ (o : Ordering). sign_at o j rows) e)
 
 answer_next : (j : ℕ) (rows : List (List ℚ)) → j < length rows
@@ -91,7 +91,7 @@ answer_next j rows h =
 zero_test : (d : ℚ) (o : Ordering) → rational_cmp d zero_ℚ ≡ o → same_fields d zero_ℚ ≡ is_eq o
 zero_test d o e = same_fields_is d zero_ℚ ∙ ap is_eq e
 
-row_of_zero : (row : List ℚ) (c : Curvature) → same_fields (at row 0) zero_ℚ ≡ true → after_row row c ≡ Ok (after_zero c)
+row_of_zero : (row : List ℚ) (c : Curvature) → same_fields (entry row 0) zero_ℚ ≡ true → after_row row c ≡ Ok (after_zero c)
 row_of_zero [] c e = refl
 row_of_zero (d ∷ v) c e = rw e
 
@@ -99,16 +99,16 @@ row_of_square : (d : ℚ) (v : List ℚ) (c : Curvature) → same_fields d zero_
 row_of_square d v c e = rw e
 
 -- what a test says of a row's first entry
-pub first_test : (row : List ℚ) (d : ℚ) (t v : Bool) → d ≡ slice_index_or row 0 d → 0 < length row → t ≡ same_fields d zero_ℚ → t ≡ v → same_fields (at row 0) zero_ℚ ≡ v
+pub first_test : (row : List ℚ) (d : ℚ) (t v : Bool) → d ≡ slice_index_or row 0 d → 0 < length row → t ≡ same_fields d zero_ℚ → t ≡ v → same_fields (entry row 0) zero_ℚ ≡ v
 first_test [] d t v e h a b = absurd (omega arith)
 first_test (x ∷ row) d t v e h a b = ap (λ (q : ℚ). same_fields q zero_ℚ) (sym e) ∙ sym a ∙ b
 
-pub first_order : (row : List ℚ) (d : ℚ) (o : Ordering) → d ≡ slice_index_or row 0 d → 0 < length row → rational_cmp d zero_ℚ ≡ o → rational_cmp (at row 0) zero_ℚ ≡ o
+pub first_order : (row : List ℚ) (d : ℚ) (o : Ordering) → d ≡ slice_index_or row 0 d → 0 < length row → rational_cmp d zero_ℚ ≡ o → rational_cmp (entry row 0) zero_ℚ ≡ o
 first_order [] d o e h a = absurd (omega arith)
 first_order (x ∷ row) d o e h a = ap (λ (q : ℚ). rational_cmp q zero_ℚ) (sym e) ∙ a
 
 -- an entry read at its place
-pub entry_is : (row : List ℚ) (k : ℕ) (d : ℚ) → d ≡ slice_index_or row k d → k < length row → d ≡ at row k
+pub entry_is : (row : List ℚ) (k : ℕ) (d : ℚ) → d ≡ slice_index_or row k d → k < length row → d ≡ entry row k
 entry_is [] k d e h = absurd (omega arith)
 entry_is (x ∷ row) zero d e h = e
 entry_is (x ∷ row) (suc k) d e h = entry_is row k d e (omega arith)
@@ -141,7 +141,7 @@ dot_lent row lent z next t e h =
 pub place_read : (row lent : List ℚ) (o : Option ℕ) → lent ≡ row → o ≡ first_place (take (length lent - 1) (drop 1 lent)) → first_place (drop 1 row) ≡ o
 place_read row lent o e h = ap (λ (r : List ℚ). first_place (drop 1 r)) (sym e) ∙ ap first_place (sym (rest_is lent)) ∙ sym h
 
-pub place_nonzero : (row : List ℚ) (k : ℕ) (q : ℚ) → first_place (drop 1 row) ≡ Some k → q ≡ at row (1 + k) → q.num ≢ pos 0
+pub place_nonzero : (row : List ℚ) (k : ℕ) (q : ℚ) → first_place (drop 1 row) ≡ Some k → q ≡ entry row (1 + k) → q.num ≢ pos 0
 place_nonzero row k q f e =
     num-ne_of_ne q (λ z. (place_found (drop 1 row) k f).1 (get_or-drop 1 row k zero_ℚ ∙ sym e ∙ z))
 
@@ -164,7 +164,7 @@ length-zero_list zero = refl
 length-zero_list (suc n) = ap suc (length-zero_list n)
 
 pub step_below : (j : ℕ) (rows : List (List ℚ)) (z : List ℚ) → j < length rows → 0 < length (row_at rows j) → z ≡ replicate (length rows) zero_ℚ
-    → rational_cmp (at (row_at rows j) 0) zero_ℚ ≡ Less → answer_found j rows (slice_set z j one_ℚ) ≡ answer_at j rows
+    → rational_cmp (entry (row_at rows j) 0) zero_ℚ ≡ Less → answer_found j rows (slice_set z j one_ℚ) ≡ answer_at j rows
 unfolding answer_found
 step_below j rows z h some zs e =
     let l : j < length z = rw zs (rw (length-zero_list (length rows)) h) in
@@ -178,19 +178,19 @@ at_flat : ℕ → List (List ℚ) → Option ℕ → Result Curvature Refused
 at_flat j rows o =
     flat_in (length rows - (j + 1)) (drop 1 (row_at rows j)) (drop (j + 1) rows) o (λ left. squares_from (length rows - (j + 1)) left)
 
-answer_flat : (o : Option ℕ) (j : ℕ) (rows : List (List ℚ)) → j < length rows → 0 < length (row_at rows j) → rational_cmp (at (row_at rows j) 0) zero_ℚ ≡ Equal
+answer_flat : (o : Option ℕ) (j : ℕ) (rows : List (List ℚ)) → j < length rows → 0 < length (row_at rows j) → rational_cmp (entry (row_at rows j) 0) zero_ℚ ≡ Equal
     → first_place (drop 1 (row_at rows j)) ≡ o → answer_at j rows ≡ after_rows (take j rows) (at_flat j rows o)
 unfolding at_flat
 answer_flat o j rows h some e f = answer_here Equal j rows h some e ∙ ap (λ (o : Option ℕ). after_rows (take j rows) (at_flat j rows o)) f
 
-pub step_none : (j : ℕ) (rows : List (List ℚ)) → j < length rows → 0 < length (row_at rows j) → rational_cmp (at (row_at rows j) 0) zero_ℚ ≡ Equal
+pub step_none : (j : ℕ) (rows : List (List ℚ)) → j < length rows → 0 < length (row_at rows j) → rational_cmp (entry (row_at rows j) 0) zero_ℚ ≡ Equal
     → first_place (drop 1 (row_at rows j)) ≡ None → answer_at (j + 1) rows ≡ answer_at j rows
 unfolding at_flat
 step_none j rows h some e f =
     let rest = squares_from (length rows - (j + 1)) (drop (j + 1) rows) in
     answer_next j rows h
     ∙ ap (after_rows (take j rows))
-    (same_then rest (λ c. after_row (row_at rows j) c) (λ c. Ok (after_zero c)) (λ c. row_of_zero (row_at rows j) c (zero_test (at (row_at rows j) 0) Equal e)))
+    (same_then rest (λ c. after_row (row_at rows j) c) (λ c. Ok (after_zero c)) (λ c. row_of_zero (row_at rows j) c (zero_test (entry (row_at rows j) 0) Equal e)))
     ∙ sym (answer_flat None j rows h some e f)
 
 drop_two : (z : List ℚ) (j k : ℕ) (x t : ℚ) → j < length z → drop j (slice_set (slice_set z j x) (j + 1 + k) t) ≡ x ∷ slice_set (drop (j + 1) z) k t
@@ -202,16 +202,16 @@ drop_two (y ∷ z) (suc j) k x t h =
     let e : suc j + 1 + k ≡ suc (j + 1 + k) = omega arith in let f : suc j + 1 ≡ suc (j + 1) = omega arith in
     rw (e, f) (drop_two z j k x t (omega arith))
 
-flat_is : (j k : ℕ) (rows : List (List ℚ)) (b c : ℚ) → b ≡ at (row_at rows j) (1 + k) → c ≡ at (row_at rows (j + 1 + k)) 0
+flat_is : (j k : ℕ) (rows : List (List ℚ)) (b c : ℚ) → b ≡ entry (row_at rows j) (1 + k) → c ≡ entry (row_at rows (j + 1 + k)) 0
     → at_flat j rows (Some k) ≡ (tilt_in b c >>= λ t. Ok (Negative (tilted (length rows - (j + 1)) k t)))
 unfolding at_flat
 flat_is j k rows b c eb ec =
-    ap (λ (b : ℚ). tilt_in b (at (row_at (drop (j + 1) rows) k) 0) >>= λ t. Ok (Negative (tilted (length rows - (j + 1)) k t))) (get_or-drop 1 (row_at rows j) k zero_ℚ ∙ sym eb)
-    ∙ ap (λ (c : ℚ). tilt_in b c >>= λ t. Ok (Negative (tilted (length rows - (j + 1)) k t))) (ap (λ (r : List ℚ). at r 0) (get_or-drop (j + 1) rows k []) ∙ sym ec)
+    ap (λ (b : ℚ). tilt_in b (entry (row_at (drop (j + 1) rows) k) 0) >>= λ t. Ok (Negative (tilted (length rows - (j + 1)) k t))) (get_or-drop 1 (row_at rows j) k zero_ℚ ∙ sym eb)
+    ∙ ap (λ (c : ℚ). tilt_in b c >>= λ t. Ok (Negative (tilted (length rows - (j + 1)) k t))) (ap (λ (r : List ℚ). entry r 0) (get_or-drop (j + 1) rows k []) ∙ sym ec)
 
 pub step_tilted : (j k : ℕ) (rows : List (List ℚ)) (z : List ℚ) (b c t : ℚ) → j < length rows → 0 < length (row_at rows j) → z ≡ replicate (length rows) zero_ℚ
-    → rational_cmp (at (row_at rows j) 0) zero_ℚ ≡ Equal → first_place (drop 1 (row_at rows j)) ≡ Some k
-    → b ≡ at (row_at rows j) (1 + k) → c ≡ at (row_at rows (j + 1 + k)) 0 → tilt_in b c ≡ Ok t
+    → rational_cmp (entry (row_at rows j) 0) zero_ℚ ≡ Equal → first_place (drop 1 (row_at rows j)) ≡ Some k
+    → b ≡ entry (row_at rows j) (1 + k) → c ≡ entry (row_at rows (j + 1 + k)) 0 → tilt_in b c ≡ Ok t
     → answer_found j rows (slice_set (slice_set z j one_ℚ) (j + 1 + k) t) ≡ answer_at j rows
 unfolding answer_found
 step_tilted j k rows z b c t h some zs e f eb ec et =
@@ -222,8 +222,8 @@ step_tilted j k rows z b c t h some zs e f eb ec et =
     ∙ ap (after_rows (take j rows)) (flat_is j k rows b c eb ec ∙ ap (λ (s : Result ℚ Refused). s >>= λ t. Ok (Negative (tilted (length rows - (j + 1)) k t))) et))
 
 pub step_tilt_refused : (j k : ℕ) (rows : List (List ℚ)) (b c : ℚ) (r : Refused) → j < length rows → 0 < length (row_at rows j)
-    → rational_cmp (at (row_at rows j) 0) zero_ℚ ≡ Equal → first_place (drop 1 (row_at rows j)) ≡ Some k
-    → b ≡ at (row_at rows j) (1 + k) → c ≡ at (row_at rows (j + 1 + k)) 0 → tilt_in b c ≡ Err r → answer_at j rows ≡ Err r
+    → rational_cmp (entry (row_at rows j) 0) zero_ℚ ≡ Equal → first_place (drop 1 (row_at rows j)) ≡ Some k
+    → b ≡ entry (row_at rows j) (1 + k) → c ≡ entry (row_at rows (j + 1 + k)) 0 → tilt_in b c ≡ Err r → answer_at j rows ≡ Err r
 step_tilt_refused j k rows b c r h some e f eb ec et =
     answer_flat (Some k) j rows h some e f
     ∙ ap (after_rows (take j rows)) (flat_is j k rows b c eb ec ∙ ap (λ (s : Result ℚ Refused). s >>= λ t. Ok (Negative (tilted (length rows - (j + 1)) k t))) et)
@@ -285,18 +285,18 @@ less_is f v row e = ap row_answered (pick (same_fields f zero_ℚ) e)
 
 freed_here : (done : List (List ℚ)) (i k : ℕ) (r v : List ℚ) (rows : List (List ℚ)) → k < length r → k < length v → i < length rows
     → freed_onto done (drop k r) (drop k v) (drop i rows)
-    ≡ (row_answered (less_product (at r k) (drop k v) (row_at rows i)) >>= λ one. freed_onto (done ++ one ∷ []) (drop (k + 1) r) (drop (k + 1) v) (drop (i + 1) rows))
+    ≡ (row_answered (less_product (entry r k) (drop k v) (row_at rows i)) >>= λ one. freed_onto (done ++ one ∷ []) (drop (k + 1) r) (drop (k + 1) v) (drop (i + 1) rows))
 freed_here done i k r v rows h l w =
-    let er : drop k r ≡ at r k ∷ drop (k + 1) r = rw add-one (drop-cons r k zero_ℚ h) in
-    let ev : drop k v ≡ at v k ∷ drop (k + 1) v = rw add-one (drop-cons v k zero_ℚ l) in
+    let er : drop k r ≡ entry r k ∷ drop (k + 1) r = rw add-one (drop-cons r k zero_ℚ h) in
+    let ev : drop k v ≡ entry v k ∷ drop (k + 1) v = rw add-one (drop-cons v k zero_ℚ l) in
     ap (λ (a : List ℚ). freed_onto done a (drop k v) (drop i rows)) er
-    ∙ ap (λ (a : List ℚ). freed_onto done (at r k ∷ drop (k + 1) r) a (drop i rows)) ev
-    ∙ ap (λ (a : List (List ℚ)). freed_onto done (at r k ∷ drop (k + 1) r) (at v k ∷ drop (k + 1) v) a) (here i rows w)
-    ∙ ap (λ (a : List ℚ). row_answered (less_product (at r k) a (row_at rows i)) >>= λ one. freed_onto (done ++ one ∷ []) (drop (k + 1) r) (drop (k + 1) v) (drop (i + 1) rows)) (sym ev)
+    ∙ ap (λ (a : List ℚ). freed_onto done (entry r k ∷ drop (k + 1) r) a (drop i rows)) ev
+    ∙ ap (λ (a : List (List ℚ)). freed_onto done (entry r k ∷ drop (k + 1) r) (entry v k ∷ drop (k + 1) v) a) (here i rows w)
+    ∙ ap (λ (a : List ℚ). row_answered (less_product (entry r k) a (row_at rows i)) >>= λ one. freed_onto (done ++ one ∷ []) (drop (k + 1) r) (drop (k + 1) v) (drop (i + 1) rows)) (sym ev)
 
 -- one row more is freed
 pub freed_more : (j k : ℕ) (v row : List ℚ) (rows new : List (List ℚ)) (one : List ℚ) → 1 ≤ k → k < length row → k < length v → j + k < length rows
-    → row ≡ row_at rows j → row_answered (less_product (at row k) (drop k v) (row_at rows (j + k))) ≡ Ok one → new ≡ slice_set rows (j + k) one
+    → row ≡ row_at rows j → row_answered (less_product (entry row k) (drop k v) (row_at rows (j + k))) ≡ Ok one → new ≡ slice_set rows (j + k) one
     → (freed_onto (take (j + (k + 1)) new) (drop (k + 1) (row_at new j)) (drop (k + 1) v) (drop (j + (k + 1)) new)
     ≡ freed_onto (take (j + k) rows) (drop k (row_at rows j)) (drop k v) (drop (j + k) rows)) × (row_at new j ≡ row_at rows j)
 freed_more j k v row rows new one some h l w is e put =
@@ -315,7 +315,7 @@ freed_more j k v row rows new one some h l w is e put =
     )
 
 pub freed_stops : (j k : ℕ) (v row : List ℚ) (rows : List (List ℚ)) (r : Refused) → k < length row → k < length v → j + k < length rows
-    → row ≡ row_at rows j → row_answered (less_product (at row k) (drop k v) (row_at rows (j + k))) ≡ Err r
+    → row ≡ row_at rows j → row_answered (less_product (entry row k) (drop k v) (row_at rows (j + k))) ≡ Err r
     → freed_onto (take (j + k) rows) (drop k (row_at rows j)) (drop k v) (drop (j + k) rows) ≡ Err r
 freed_stops j k v row rows r h l w is e =
     ap (λ (a : List ℚ). freed_onto (take (j + k) rows) (drop k a) (drop k v) (drop (j + k) rows)) (sym is)
@@ -336,9 +336,9 @@ put_back (suc j) (x ∷ old) left v h =
     let e : suc j + 1 ≡ suc (j + 1) = omega arith in
     rw e (ap (λ (l : List (List ℚ)). x ∷ l) (put_back j old left v (omega arith)))
 
-module _ (j : ℕ) (old : List (List ℚ)) (h : j < length old) (some : 0 < length (row_at old j)) (above : rational_cmp (at (row_at old j) 0) zero_ℚ ≡ Greater) where
+module _ (j : ℕ) (old : List (List ℚ)) (h : j < length old) (some : 0 < length (row_at old j)) (above : rational_cmp (entry (row_at old j) 0) zero_ℚ ≡ Greater) where
   abbrev diagonal : ℚ
-  diagonal = at (row_at old j) 0
+  diagonal = entry (row_at old j) 0
 
   abbrev later : ℕ
   later = length old - (j + 1)
@@ -435,7 +435,7 @@ found_next j rows z h =
     ap (λ (front : List (List ℚ)). after_rows front (Ok (Negative (drop (j + 1) z)))) (next j rows h) ∙ after_last (take j rows) (row_at rows j) (Ok (Negative (drop (j + 1) z)))
 
 -- the entry at a place with a square
-pub carried_is : (row z : List ℚ) (t : Tried) → same_fields (at row 0) zero_ℚ ≡ false → dot_of max_part (drop 1 row) z ≡ t
+pub carried_is : (row z : List ℚ) (t : Tried) → same_fields (entry row 0) zero_ℚ ≡ false → dot_of max_part (drop 1 row) z ≡ t
     → after_row row (Negative z) ≡ (answered t >>= λ q. Ok (Negative (neg_ℚ q ∷ z)))
 carried_is [] z t h e = absurd (let bad : true ≡ false = sym (same_fields_self zero_ℚ zero_ℚ refl) ∙ h in cc)
 carried_is (d ∷ v) z t h e = row_of_square d v (Negative z) h ∙ ap (λ (t : Tried). answered t >>= λ q. Ok (Negative (neg_ℚ q ∷ z))) e

@@ -10,8 +10,8 @@ use Rattle.frac_core.specs.declared.fractions.Op.{Op}
 use Rattle.frac_core.specs.declared.fractions.Op.TheVariants.{Add, Sub, Mul, Div}
 use Rattle.frac_core.specs.declared.fractions.Refused.{Refused}
 use Rattle.program_law.specs.declared.Square.{Square}
-use Rattle.exact_matrix.specs.EliminationCalculation.{divide_step, divided_in}
-use Rattle.exact_matrix.specs.EliminationOperations.{division_ops, less_ops}
+use Rattle.elimination_law.specs.Calculation.{divide_step, divided_in}
+use Rattle.elimination_law.specs.Operations.{division_ops, less_ops}
 use Rattle.convexity.specs.declared.Curvature.{Curvature}
 use Rattle.convexity.specs.declared.Curvature.TheVariants.{Squares, Negative}
 use Rattle.convexity.specs.Reduction.{curvature_from, curvature_of}

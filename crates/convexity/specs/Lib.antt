@@ -1,9 +1,6 @@
-pub mod Chain
-pub mod Half
 pub mod Reduction
 pub mod ReductionCalculation
 pub mod ReductionOperations
 pub mod Meaning
 pub mod Onto
-pub mod Triangle
 pub mod Places

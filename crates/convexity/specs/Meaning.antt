@@ -2,8 +2,8 @@
 use Rattle.std.specs.Prelude.{◌≡◌, ℕ, ◌≤◌, List, length, All}
 use Rattle.rational.specs.Rational.{ℚ, zero_ℚ}
 use Rattle.rational.specs.Order.{◌<ℚ◌}
-use Rattle.program_law.specs.Vectors.{form}
-use Rattle.certificate_law.specs.Squares.{AreSquaresOf}
+use Rattle.rational.specs.Vectors.{form}
+use Rattle.program_law.specs.Squares.{AreSquaresOf}
 use Rattle.convexity.specs.declared.Curvature.{Curvature}
 use Rattle.convexity.specs.declared.Curvature.TheVariants.{Squares, Negative}
 

@@ -3,7 +3,7 @@ use Rattle.std.specs.Prelude.{List, [], ◌∷◌, ◌++◌, Result, Ok}
 use Rattle.rational.specs.Rational.{ℚ}
 use Rattle.frac_core.specs.Parts.{max_part}
 use Rattle.frac_core.specs.declared.fractions.Refused.{Refused}
-use Rattle.exact_matrix.specs.EliminationCalculation.{divide_step}
+use Rattle.elimination_law.specs.Calculation.{divide_step}
 use Rattle.frac_core.specs.Calculated.{◌>>=◌, answered}
 
 -- each entry divided by d

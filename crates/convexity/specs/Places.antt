@@ -8,7 +8,7 @@ use Rattle.program_law.specs.declared.Square.{Square}
 use Rattle.convexity.specs.declared.Curvature.{Curvature}
 use Rattle.convexity.specs.declared.Curvature.TheVariants.{Negative}
 use Rattle.frac_core.specs.Calculated.{◌>>=◌}
-use Rattle.convexity.specs.Chain.{row_answered}
+use Rattle.symmetric_half.specs.Chain.{row_answered}
 use Rattle.convexity.specs.Reduction.{after_zero}
 use Rattle.convexity.specs.ReductionCalculation.{less_product, after_square_in, squares_from}
 

@@ -14,14 +14,14 @@ use Rattle.std.specs.declared.cmp.Ordering.{Ordering}
 use Rattle.std.specs.declared.cmp.Ordering.TheVariants.{Less, Equal, Greater}
 use Rattle.rational.specs.Rational.{ℚ, zero_ℚ, one_ℚ, neg_ℚ, ◌/ℚ◌}
 use Rattle.rational.specs.Order.{rational_cmp, same_fields}
-use Rattle.rational.specs.Vectors.{add_each, scale, zeros}
+use Rattle.rational.specs.Vectors.{add_each, scale, zeros, row_at, dot}
 use Rattle.program_law.specs.declared.Square.{Square}
-use Rattle.program_law.specs.Tests.{is_positive}
-use Rattle.program_law.specs.Vectors.{at, row_at, dot}
-use Rattle.exact_matrix.specs.Elimination.{divided}
+use Rattle.rational.specs.Tests.{is_positive}
+use Rattle.rational.specs.Sums.{entry}
+use Rattle.elimination_law.specs.Elimination.{divided}
 use Rattle.convexity.specs.declared.Curvature.{Curvature}
 use Rattle.convexity.specs.declared.Curvature.TheVariants.{Squares, Negative}
-use Rattle.convexity.specs.Half.{upper_half}
+use Rattle.symmetric_half.specs.Half.{upper_half}
 
 -- the first place where a row is not 0
 abbrev pub first_place : List ℚ → Option ℕ
@@ -60,7 +60,7 @@ after_square d v (Negative z) = Negative (neg_ℚ (dot v z) ∷ z)
 -- where d is 0, given the first place of r with an entry
 abbrev pub flat : ℕ → List ℚ → List (List ℚ) → Option ℕ → (List (List ℚ) → Curvature) → Curvature
 flat n r rows None rest = after_zero (rest rows)
-flat n r rows (Some k) rest = Negative (tilted n k (tilt (at r k) (at (row_at rows k) 0)))
+flat n r rows (Some k) rest = Negative (tilted n k (tilt (entry r k) (entry (row_at rows k) 0)))
 
 -- by how d compares with 0, where n places come after this one and `rest` is the answer of the rows that are left
 abbrev pub by_sign : Ordering → ℕ → ℚ → List ℚ → List (List ℚ) → (List (List ℚ) → Curvature) → Curvature

@@ -4,20 +4,20 @@ use Rattle.std.specs.declared.cmp.Ordering.{Ordering}
 use Rattle.std.specs.declared.cmp.Ordering.TheVariants.{Less, Equal, Greater}
 use Rattle.rational.specs.Rational.{ℚ, zero_ℚ, one_ℚ, neg_ℚ}
 use Rattle.rational.specs.Order.{rational_cmp, same_fields}
-use Rattle.rational.specs.Vectors.{zeros}
+use Rattle.rational.specs.Vectors.{zeros, row_at}
 use Rattle.frac_core.specs.Parts.{max_part}
 use Rattle.frac_core.specs.Dot.{dot_of}
 use Rattle.frac_core.specs.Row.{Row, Entries, row_less}
 use Rattle.frac_core.specs.declared.fractions.Op.TheVariants.{Div}
 use Rattle.frac_core.specs.declared.fractions.Refused.{Refused}
-use Rattle.program_law.specs.Tests.{is_positive}
-use Rattle.program_law.specs.Vectors.{at, row_at}
-use Rattle.exact_matrix.specs.EliminationCalculation.{divided_in}
+use Rattle.rational.specs.Tests.{is_positive}
+use Rattle.rational.specs.Sums.{entry}
+use Rattle.elimination_law.specs.Calculation.{divided_in}
 use Rattle.convexity.specs.declared.Curvature.{Curvature}
 use Rattle.convexity.specs.declared.Curvature.TheVariants.{Squares, Negative}
 use Rattle.frac_core.specs.Calculated.{◌>>=◌, answered, operated}
-use Rattle.convexity.specs.Chain.{row_answered}
-use Rattle.convexity.specs.Half.{upper_half}
+use Rattle.symmetric_half.specs.Chain.{row_answered}
+use Rattle.symmetric_half.specs.Half.{upper_half}
 use Rattle.convexity.specs.Reduction.{first_place, tilted, after_zero, after_square}
 
 -- the quotient, with its sign turned
@@ -43,7 +43,7 @@ after_square_in d v (Negative z) = answered (dot_of max_part v z) >>= λ q. Ok (
 
 abbrev pub flat_in : ℕ → List ℚ → List (List ℚ) → Option ℕ → (List (List ℚ) → Result Curvature Refused) → Result Curvature Refused
 flat_in n r rows None rest = rest rows >>= λ c. Ok (after_zero c)
-flat_in n r rows (Some k) rest = tilt_in (at r k) (at (row_at rows k) 0) >>= λ t. Ok (Negative (tilted n k t))
+flat_in n r rows (Some k) rest = tilt_in (entry r k) (entry (row_at rows k) 0) >>= λ t. Ok (Negative (tilted n k t))
 
 abbrev pub by_sign_in : Ordering → ℕ → ℚ → List ℚ → List (List ℚ) → (List (List ℚ) → Result Curvature Refused) → Result Curvature Refused
 by_sign_in Less n d r rows rest = Ok (Negative (one_ℚ ∷ zeros n))

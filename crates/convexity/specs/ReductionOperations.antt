@@ -10,13 +10,14 @@ use Rattle.frac_core.specs.Dot.{dot_ops}
 use Rattle.frac_core.specs.Operations.{operation}
 use Rattle.frac_core.specs.declared.fractions.Op.TheVariants.{Div}
 use Rattle.frac_core.specs.declared.fractions.Refused.{Refused}
-use Rattle.program_law.specs.Tests.{is_positive}
-use Rattle.program_law.specs.Vectors.{at, row_at}
-use Rattle.exact_matrix.specs.Elimination.{divided}
-use Rattle.exact_matrix.specs.EliminationOperations.{division_ops, less_ops}
+use Rattle.rational.specs.Tests.{is_positive}
+use Rattle.rational.specs.Sums.{entry}
+use Rattle.rational.specs.Vectors.{row_at}
+use Rattle.elimination_law.specs.Elimination.{divided}
+use Rattle.elimination_law.specs.Operations.{division_ops, less_ops}
 use Rattle.convexity.specs.declared.Curvature.{Curvature}
 use Rattle.convexity.specs.declared.Curvature.TheVariants.{Squares, Negative}
-use Rattle.convexity.specs.Half.{upper_half}
+use Rattle.symmetric_half.specs.Half.{upper_half}
 use Rattle.convexity.specs.Reduction.{first_place, less_products, curvature_from}
 
 abbrev pub tilt_ops : ℚ → ℚ → List Refused
@@ -39,7 +40,7 @@ after_square_ops v (Negative z) = dot_ops v z
 
 abbrev pub flat_ops : List ℚ → List (List ℚ) → Option ℕ → (List (List ℚ) → List Refused) → List Refused
 flat_ops r rows None rest = rest rows
-flat_ops r rows (Some k) rest = tilt_ops (at r k) (at (row_at rows k) 0)
+flat_ops r rows (Some k) rest = tilt_ops (entry r k) (entry (row_at rows k) 0)
 
 abbrev pub by_sign_ops : Ordering → ℕ → ℚ → List ℚ → List (List ℚ) → (List (List ℚ) → List Refused) → List Refused
 by_sign_ops Less n d r rows rest = []

@@ -2,7 +2,7 @@
 
 ghost use Rattle.convexity.specs.declared.Curvature.{Curvature};
 ghost use Rattle.convexity.specs.declared.Curvature.TheVariants.{Negative};
-ghost use Rattle.convexity.specs.Half.{IsSymmetric};
+ghost use Rattle.symmetric_half.specs.Half.{IsSymmetric};
 ghost use Rattle.convexity.specs.Meaning.{HasWidth, IsCurvatureOf};
 ghost use Rattle.convexity.specs.Reduction.{curvature_of};
 ghost use Rattle.convexity.specs.ReductionCalculation.{squares_of};
@@ -10,7 +10,7 @@ ghost use Rattle.convexity.specs.ReductionOperations.{squares_ops};
 ghost use Rattle.frac_core.specs.declared.fractions.Refused.{Refused};
 ghost use Rattle.frac_core.specs.Operations.{IsWithin, IsFirstPast};
 ghost use Rattle.frac_core.specs.Parts.{max_part};
-ghost use Rattle.program_law.specs.Vectors.{form};
+ghost use Rattle.rational.specs.Vectors.{form};
 ghost use Rattle.rational.specs.Order.{◌<ℚ◌};
 ghost use Rattle.rational.specs.Rational.{ℚ, zero_ℚ};
 ghost use Rattle.std.specs.List.{All};

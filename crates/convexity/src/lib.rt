@@ -8,19 +8,18 @@ ghost use Rattle.convexity.specs.ReductionCalculation.{squares_of};
 ghost use Rattle.convexity.specs.ReductionOperations.{squares_ops};
 ghost use Rattle.std.specs.Prelude.{◌≡◌, length, IfOk};
 
-mod half;
 mod laws;
 mod reduction;
 mod rows;
 
-use crate::half::Half;
 use crate::reduction::{carry_back, reduce, squares_of};
 use exact_matrix::Stop;
 use frac_core::{Frac, Vector};
 pub use laws::{reduction_ends_with_its_first_refusal, reduction_tells_the_curvature};
+use program_data::Program;
 use program_law::Squares;
-use program_model::Program;
 use std::alloc::Global;
+use symmetric_half::Half;
 
 /// What is known of a symmetric matrix.
 #[derive(Drop)]

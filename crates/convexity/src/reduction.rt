@@ -1,31 +1,24 @@
 // The reduction, place by place.
 
 ghost use Rattle.frac_core.specs.Calculated.{Leaves};
-ghost use Rattle.convexity.specs.Chain.{row_answered};
+ghost use Rattle.symmetric_half.specs.Chain.{row_answered};
 ghost use Rattle.convexity.specs.Places.{after_row, answer_found, freed_onto, squares_of_rows, with_entry, IsReduced, IsStep, IsTaken};
 ghost use Rattle.convexity.specs.Reduction.{first_place};
 ghost use Rattle.convexity.specs.ReductionCalculation.{less_product, tilt_in};
 ghost use Rattle.convexity.specs.declared.Curvature.TheVariants.{Negative};
-ghost use Rattle.program_law.specs.Tests.{is_positive};
-ghost use Rattle.program_law.specs.Vectors.{at, row_at};
+ghost use Rattle.rational.specs.Sums.{entry};
+ghost use Rattle.rational.specs.Vectors.{row_at};
 ghost use Rattle.rational.specs.Order.{rational_cmp};
 ghost use Rattle.rational.specs.Rational.{zero_ℚ, one_ℚ};
 ghost use Rattle.std.specs.Prelude.{◌≡◌, ◌≢◌, ◌<◌, ◌≤◌, ◌+◌, ◌∷◌, ◌++◌, false, take, drop, length, pos, replicate, slice_set, IfOk, IfSome};
 ghost use Rattle.std.specs.declared.cmp.Ordering.TheVariants.{Equal, Greater};
 
-use crate::half::Half;
 use crate::rows::divide_onto;
 use frac_core::{Frac, Memory, Refused, Vector, dot_fractions, is_zero};
 use program_law::{Square, Squares};
 use std::alloc::Global;
 use std::cmp::Ordering;
-
-// Whether a number is above 0.
-fn is_positive(x: Frac) -> bool
-    ensures { result ≡ is_positive x }
-{
-    0 < x.num()
-}
+use symmetric_half::Half;
 
 // The first place with an entry that is not 0.
 fn first_place(row: &[Frac]) -> Option<usize>
@@ -45,7 +38,7 @@ fn tilt(b: Frac, c: Frac) -> Result<Frac, Refused>
     requires { b.num ≢ pos 0 }
     ensures { result ≡ tilt_in b c }
 {
-    let quotient = if is_positive(c) {
+    let quotient = if c.is_positive() {
         (b / c).or_refusal()?
     } else {
         (Frac::whole(1) / b).or_refusal()?
@@ -56,7 +49,7 @@ fn tilt(b: Frac, c: Frac) -> Result<Frac, Refused>
 // The place at `j`, where the diagonal is 0. Whether a vector is found.
 fn flat(half: &Half, j: usize, z: &mut Vector<Frac>) -> Result<bool, Refused>
     requires place { j < length half.now }
-    requires diagonal { rational_cmp (at (row_at half.now j) 0) zero_ℚ ≡ Equal }
+    requires diagonal { rational_cmp (entry (row_at half.now j) 0) zero_ℚ ≡ Equal }
     requires zeros { z.old ≡ replicate (length half.now) zero_ℚ }
     ensures step { IsStep j half.now half.now z.new result }
     ensures passed { IfOk result (λ found. found ≡ false → z.new ≡ z.old) }
@@ -106,7 +99,7 @@ fn free_rows(half: &mut Half, j: usize, v: &[Frac]) -> Result<(), Refused>
 // The place at `j`, where the diagonal is above 0: takes a square from R, and leaves its weight and entries as the row.
 fn take_square(half: &mut Half, j: usize, room: &mut [Frac]) -> Result<(), Refused>
     requires place { j < length half.old }
-    requires diagonal { rational_cmp (at (row_at half.old j) 0) zero_ℚ ≡ Greater }
+    requires diagonal { rational_cmp (entry (row_at half.old j) 0) zero_ℚ ≡ Greater }
     requires room { length room.old ≡ length half.old }
     ensures taken { IsTaken j half.old half.new result }
     ensures size { length half.new ≡ length half.old }
@@ -194,12 +187,10 @@ fn coefficients(alloc: Global, j: usize, row: &[Frac]) -> Result<Vector<Frac>, M
     requires { 0 < length row.now }
     ensures { IfOk result (λ coef. coef ≡ replicate j zero_ℚ ++ one_ℚ ∷ drop 1 row.now) }
 {
-    let mut coef = Vector::filled(alloc, j, Frac::whole(0))?;
-    coef.push(Frac::whole(1))?;
-    for x in &row[1..] {
-        coef.push(*x)?;
-    }
-    Ok(coef)
+    let mut entries = Vec::from_elem(alloc, Frac::whole(0), j)?;
+    entries.push(Frac::whole(1))?;
+    entries.extend_from_slice(&row[1..])?;
+    Vector::of_slice(alloc, &entries)
 }
 
 // The squares of the rows whose first entry, the weight, is not 0.

@@ -1,11 +1,5 @@
 pub mod Answered
 pub mod Multipliers
 pub mod Walked
-pub mod Chains
 pub mod Shifted
-pub mod Appended
-pub mod Gathered
-pub mod Places
-pub mod Columns
-pub mod Pairs
 pub mod Whole

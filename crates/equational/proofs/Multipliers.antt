@@ -16,8 +16,9 @@ use Rattle.equational_law.specs.Standing.{shift, spread}
 use Rattle.equational_law.specs.Equations.{Equation, count_by, is_negated, row_equations, row_equations_by, row_slacks, bound_equations, slacks_at}
 use Rattle.equational_law.specs.Form.{equations, firsts, multipliers_of, unsigned}
 use Rattle.equational.specs.Back.{multiplier_at}
-use Rattle.equational.specs.Formed.{begins_negated, firsts_from, formed, Formed}
-use Rattle.equational.specs.declared.kept.First.{First}
+use Rattle.equational.specs.Formed.{formed, Formed}
+use Rattle.equational_rows.specs.Firsts.{begins_negated, firsts_from}
+use Rattle.equational_rows.specs.declared.equations.First.{First}
 
 -- ---- each row has an equation
 

@@ -7,7 +7,7 @@ use Rattle.frac_core.specs.declared.fractions.Op.TheVariants.{Add}
 use Rattle.frac_core.specs.Dot.{dot_of}
 use Rattle.frac_core.specs.Calculated.{◌>>=◌, answered, operated}
 use Rattle.equational_law.specs.Calculation.{products_in, sums_in}
-use Rattle.equational.proofs.Places.{at_place}
+use Rattle.equational_rows.proofs.Places.{at_place}
 
 products_by : (top : ℕ) (row : List ℚ) (rows : List (List ℚ)) (h : List ℚ) → products_in top (row ∷ rows) h ≡ (answered (dot_of top row h) >>= λ q. products_in top rows h >>= λ qs. Ok (q ∷ qs))
 unfolding products_in

@@ -22,17 +22,19 @@ use Rattle.equational_law.specs.Equations.{Equation, row_equations_by, row_equat
 use Rattle.equational_law.specs.Form.{Form, equations, slacks, width, padded, form_by, form_of}
 use Rattle.equational_law.specs.Solutions.{IsForm}
 use Rattle.frac_core.specs.Calculated.{◌>>=◌}
-use Rattle.equational_law.specs.Calculation.{Gives, products_in, sums_in, constant_in, row_equations_in, bound_equations_in, equations_in, form_in, form_ops}
+use Rattle.equational_law.specs.Calculation.{Gives, products_in, sums_in, constant_in, equations_in, form_in, form_ops}
 use Rattle.equational_law.proofs.Calculated.{form_gives}
 use Rattle.equational_law.proofs.Shapes.{shape, symmetric}
 use Rattle.equational_law.proofs.Solving.{length-cost}
-use Rattle.equational.specs.declared.kept.First.{First}
+use Rattle.equational_rows.specs.Firsts.{begins_negated, firsts_from}
+use Rattle.equational_rows.specs.declared.equations.First.{First}
 use Rattle.exact_matrix.specs.Stops.{Answers, IsAnswerOf, Stops}
-use Rattle.equational.specs.Formed.{Formed, formed, firsts_from, begins_negated, IsKept}
-use Rattle.equational.specs.Built.{Laid, laid, all_slacks, Built, with_equations, appended, objective_in, quadratic_rows, IsMade}
-use Rattle.equational.proofs.Chains.{stops_then, stops_as}
-use Rattle.equational.proofs.Appended.{equations_after, length-joined, rows_of-joined}
-use Rattle.equational.proofs.Gathered.{equation, first, first_of}
+use Rattle.equational.specs.Formed.{Formed, formed, IsKept}
+use Rattle.equational_rows.specs.Built.{Laid, laid, all_slacks, Built, no_rows, with_equations, appended, quadratic_rows}
+use Rattle.equational.specs.Made.{objective_in, objective_on, IsMade}
+use Rattle.equational_rows.proofs.Chains.{stops_then, stops_as}
+use Rattle.equational_rows.proofs.Appended.{length-joined, rows_of-joined}
+use Rattle.equational_rows.proofs.Gathered.{equation, first, first_of}
 
 -- ---- the calculation in two parts
 
@@ -52,27 +54,27 @@ unfolding form_in objective_in
 form_parts p region =
     thirds (products_in max_part p.pairs (shift region)) (λ qh. sums_in max_part p.costs qh) (λ qh. constant_in max_part p (shift region) qh) (λ costs constant. equations_in max_part p region >>= λ es. Ok (form_by p region es costs constant))
 
-equations_parts : (p : Program) (region : Region) → equations_in max_part p region
-    ≡ (row_equations_in max_part region (shift region) 0 (sides p) p.entries >>= λ es. bound_equations_in max_part region (row_slacks (sides p)) 0 region >>= λ others. Ok (es ++ others))
-unfolding equations_in
-equations_parts p region = refl
-
 -- ---- what the calls answered
 
-stops_before : (e : Stop) (slacks : ℕ) (b : Built) (t : Result (List Equation) Refused) → Stops e (appended slacks b t) → Stops e t
-stops_before Memory slacks b t h = tt
-stops_before (Past q) slacks b (Ok es) h = absurd cc
-stops_before (Past q) slacks b (Err r) h = let f : r ≡ q = cc in ap (λ (x : Refused). Err x) f
+-- a calculation whose value goes through a function
+stops_of : {A B : Type 0} (e : Stop) (t : Result A Refused) (f : A → B) → Stops e (t >>= λ x. Ok (f x)) → Stops e t
+stops_of Memory t f h = tt
+stops_of (Past q) (Ok x) f h = absurd cc
+stops_of (Past q) (Err r) f h = let e : r ≡ q = cc in ap (λ (r : Refused). Err r) e
 
-were_appended : (slacks : ℕ) (b new : Built) (t : Result (List Equation) Refused) → appended slacks b t ≡ Ok new → (es : List Equation) × (t ≡ Ok es) × (new ≡ with_equations slacks b es)
-were_appended slacks b new (Err r) h = absurd cc
-were_appended slacks b new (Ok es) h = (es, refl, cc)
+found_of : {A B : Type 0} (t : Result A Refused) (f : A → B) (y : B) → (t >>= λ x. Ok (f x)) ≡ Ok y → (x : A) × (t ≡ Ok x) × (y ≡ f x)
+found_of (Err r) f y h = absurd cc
+found_of (Ok x) f y h = (x, refl, cc)
 
-pub objective_stops : (e : Stop) (p : Program) (region : Region) (h : List ℚ) → h ≡ shift region → Stops e (objective_in max_part p h) → Stops e (form_in max_part p region)
-objective_stops e p region h k s =
+-- costs of the file's columns on the form's, and the constant
+abbrev on_columns : Laid → List ℚ × ℚ → List ℚ × ℚ
+on_columns l o = (padded (all_slacks l) (spread l.region o.0), o.1)
+
+pub objective_stops : (e : Stop) (p : Program) (region : Region) (h : List ℚ) (l : Laid) → h ≡ shift region → Stops e (objective_on l p h) → Stops e (form_in max_part p region)
+objective_stops e p region h l k s =
     stops_as e _ (form_in max_part p region) (sym (form_parts p region))
     (stops_then e (objective_in max_part p (shift region)) (λ (o : List ℚ × ℚ). equations_in max_part p region >>= λ es. Ok (form_by p region es o.0 o.1))
-    (stops_as e _ _ (ap (objective_in max_part p) k) s))
+    (stops_as e _ _ (ap (objective_in max_part p) k) (stops_of e (objective_in max_part p h) (on_columns l) s)))
 
 -- with the objective known
 objective_known : (p : Program) (region : Region) (h : List ℚ) (o : List ℚ × ℚ) → h ≡ shift region → objective_in max_part p h ≡ Ok o
@@ -81,39 +83,13 @@ objective_known p region h o k d =
     form_parts p region
     ∙ ap (λ (t : Result (List ℚ × ℚ) Refused). t >>= λ (o : List ℚ × ℚ). equations_in max_part p region >>= λ es. Ok (form_by p region es o.0 o.1)) (sym (ap (objective_in max_part p) k) ∙ d)
 
-equations_stop : (e : Stop) (p : Program) (region : Region) (h : List ℚ) (o : List ℚ × ℚ) → h ≡ shift region → objective_in max_part p h ≡ Ok o → Stops e (equations_in max_part p region) → Stops e (form_in max_part p region)
-equations_stop e p region h o k d s =
-    stops_as e _ (form_in max_part p region) (sym (objective_known p region h o k d)) (stops_then e (equations_in max_part p region) (λ es. Ok (form_by p region es o.0 o.1)) s)
-
-abbrev pub rows_in : Region → List ℚ → Program → Result (List Equation) Refused
-rows_in region h p = row_equations_in max_part region h 0 (sides p) p.entries
-
-abbrev pub columns_in : Laid → Result (List Equation) Refused
-columns_in l = bound_equations_in max_part l.region l.row_slacks 0 l.region
-
-pub rows_stop : (e : Stop) (p : Program) (region : Region) (h : List ℚ) (o : List ℚ × ℚ) (l : Laid) (slacks : ℕ) (b : Built) → h ≡ shift region → l ≡ laid p region → objective_in max_part p h ≡ Ok o
-    → Stops e (appended slacks b (rows_in l.region h p)) → Stops e (form_in max_part p region)
-rows_stop e p region h o l slacks b k m d s =
-    let same : rows_in l.region h p ≡ rows_in region (shift region) p = ap (λ (l : Laid). rows_in l.region h p) m ∙ ap (λ (h : List ℚ). rows_in region h p) k in
-    equations_stop e p region h o k d
-    (stops_as e _ (equations_in max_part p region) (sym (equations_parts p region))
-    (stops_then e (rows_in region (shift region) p) (λ es. columns_in (laid p region) >>= λ others. Ok (es ++ others)) (stops_as e _ _ same (stops_before e slacks b (rows_in l.region h p) s))))
-
-rows_known : (p : Program) (region : Region) (h : List ℚ) (l : Laid) (es : List Equation) → h ≡ shift region → l ≡ laid p region → rows_in l.region h p ≡ Ok es
-    → equations_in max_part p region ≡ (columns_in l >>= λ others. Ok (es ++ others))
-rows_known p region h l es k m d =
-    let same : rows_in l.region h p ≡ rows_in region (shift region) p = ap (λ (l : Laid). rows_in l.region h p) m ∙ ap (λ (h : List ℚ). rows_in region h p) k in
-    equations_parts p region
-    ∙ ap (λ (t : Result (List Equation) Refused). t >>= λ es. columns_in (laid p region) >>= λ others. Ok (es ++ others)) (sym same ∙ d)
-    ∙ ap (λ (l : Laid). columns_in l >>= λ others. Ok (es ++ others)) (sym m)
-
-pub columns_stop : (e : Stop) (p : Program) (region : Region) (h : List ℚ) (o : List ℚ × ℚ) (l : Laid) (slacks : ℕ) (b middle : Built) → h ≡ shift region → l ≡ laid p region → objective_in max_part p h ≡ Ok o
-    → appended slacks b (rows_in l.region h p) ≡ Ok middle → Stops e (appended slacks middle (columns_in l)) → Stops e (form_in max_part p region)
-columns_stop e p region h o l slacks b middle k m d r s =
-    let found = were_appended slacks b middle (rows_in l.region h p) r in
-    equations_stop e p region h o k d
-    (stops_as e _ (equations_in max_part p region) (sym (rows_known p region h l found.0 k m found.1))
-    (stops_then e (columns_in l) (λ others. Ok (found.0 ++ others)) (stops_before e slacks middle (columns_in l) s)))
+pub equations_stop : (e : Stop) (p : Program) (region : Region) (h : List ℚ) (l : Laid) (o : List ℚ × ℚ) (n : ℕ) (b : Built) → h ≡ shift region → l ≡ laid p region → objective_on l p h ≡ Ok o
+    → Stops e (appended n b (equations_in max_part p l.region)) → Stops e (form_in max_part p region)
+equations_stop e p region h l o n b k m d s =
+    let found = found_of (objective_in max_part p h) (on_columns l) o d in
+    stops_as e _ (form_in max_part p region) (sym (objective_known p region h found.0 k found.1))
+    (stops_then e (equations_in max_part p region) (λ es. Ok (form_by p region es found.0.0 found.0.1))
+    (stops_as e _ _ (ap (λ (l : Laid). equations_in max_part p l.region) m) (stops_of e (equations_in max_part p l.region) (with_equations n b) s)))
 
 -- ---- the form
 
@@ -121,46 +97,32 @@ gives_exact : {A : Type 0} (top : ℕ) (ops : List Refused) (v f : A) (t : Resul
 gives_exact top ops v f (Ok x) g e = let h : x ≡ f = cc in sym h ∙ g.1
 gives_exact top ops v f (Err r) g e = absurd cc
 
-form_ended : (p : Program) (region : Region) (h : List ℚ) (o : List ℚ × ℚ) (l : Laid) (es others : List Equation) → h ≡ shift region → l ≡ laid p region → objective_in max_part p h ≡ Ok o
-    → rows_in l.region h p ≡ Ok es → columns_in l ≡ Ok others → form_in max_part p region ≡ Ok (form_by p region (es ++ others) o.0 o.1)
-form_ended p region h o l es others k m d r c =
-    objective_known p region h o k d
-    ∙ ap (λ (t : Result (List Equation) Refused). t >>= λ es. Ok (form_by p region es o.0 o.1)) (rows_known p region h l es k m r ∙ ap (λ (t : Result (List Equation) Refused). t >>= λ others. Ok (es ++ others)) c)
-
-abbrev nothing : Built
-nothing = record { entries = []; right = [] }
-
-pub made : (p : Program) (region : Region) (h : List ℚ) (costs : List ℚ) (constant : ℚ) (l : Laid) (start middle b : Built) (firsts : List First) (quadratic cost : List ℚ) → IsProgram p → length region ≡ length p.columns
-    → h ≡ shift region → l ≡ laid p region → objective_in max_part p h ≡ Ok (costs, constant) → start ≡ record { entries = []; right = [] }
-    → appended (all_slacks l) start (rows_in l.region h p) ≡ Ok middle → appended (all_slacks l) middle (columns_in l) ≡ Ok b
-    → ((more : List Equation) → firsts ≡ firsts_from (length start.right) (sides p) (row_equations l.region h 0 (sides p) p.entries ++ more))
-    → quadratic ≡ joined (quadratic_rows l p.pairs) → cost ≡ padded (all_slacks l) (spread l.region costs)
+pub made : (p : Program) (region : Region) (h : List ℚ) (l : Laid) (b : Built) (firsts : List First) (quadratic cost : List ℚ) (constant : ℚ) → IsProgram p → length region ≡ length p.columns
+    → h ≡ shift region → l ≡ laid p region → objective_on l p h ≡ Ok (cost, constant) → quadratic ≡ joined (quadratic_rows l p.pairs)
+    → appended (all_slacks l) no_rows (equations_in max_part p l.region) ≡ Ok b → firsts ≡ firsts_from 0 (sides p) (equations p l.region)
     → (form_in max_part p region ≡ Ok (form_of p region)) × IsMade p region l b firsts quadratic cost constant
-made p region h costs constant l start middle b firsts quadratic cost good w k m d z r c f q t =
+made p region h l b firsts quadratic cost constant good w k m d q r f =
     let n = all_slacks l in
-    let rows = were_appended n start middle (rows_in l.region h p) r in
-    let columns = were_appended n middle b (columns_in l) c in
-    let es = rows.0 ++ columns.0 in
-    let ended = form_ended p region h (costs, constant) l rows.0 columns.0 k m d rows.1 columns.1 in
-    let same : form_by p region es costs constant ≡ form_of p region = gives_exact max_part (form_ops p region) (form_of p region) _ (form_in max_part p region) (form_gives max_part p region) ended in
-    let count : n ≡ slacks p region = ap all_slacks m in
-    let built : b ≡ with_equations n nothing es =
-    columns.2 ∙ ap (λ (a : Built). with_equations n a columns.0) (rows.2 ∙ ap (λ (a : Built). with_equations n a rows.0) z) ∙ equations_after n nothing rows.0 columns.0 in (
+    let o = found_of (objective_in max_part p h) (on_columns l) (cost, constant) d in
+    let rows = found_of (equations_in max_part p l.region) (with_equations n no_rows) b r in
+    let costs = o.0.0 in
+    let es = rows.0 in
+    let known : equations_in max_part p region ≡ Ok es = ap (λ (l : Laid). equations_in max_part p l.region) (sym m) ∙ rows.1 in
+    let ended : form_in max_part p region ≡ Ok (form_by p region es costs o.0.1) =
+    objective_known p region h o.0 k o.1 ∙ ap (λ (t : Result (List Equation) Refused). t >>= λ es. Ok (form_by p region es costs o.0.1)) known in
+    let same : form_by p region es costs o.0.1 ≡ form_of p region = gives_exact max_part (form_ops p region) (form_of p region) _ (form_in max_part p region) (form_gives max_part p region) ended in
+    let count : n ≡ slacks p region = ap all_slacks m in (
       ended ∙ ap (λ (f : Form). Ok f) same,
       record {
         program = good;
         columns = w;
         layout = m;
-        entries = ap (λ (b : Built). b.entries) built ∙ ap (λ (n : ℕ). joined (map (matrix_row n) es)) count ∙ ap (λ (f : Form). joined f.matrix) same;
-        right = ap (λ (b : Built). b.right) built ∙ ap (λ (f : Form). f.right) same;
-        quadratic = q ∙ ap (λ (l : Laid). joined (quadratic_rows l p.pairs)) m;
-        cost = t ∙ ap (λ (l : Laid). padded (all_slacks l) (spread l.region costs)) m ∙ ap (λ (f : Form). f.cost) same;
-        constant = ap (λ (f : Form). f.constant) same;
-        firsts =
-            f (bound_equations region (row_slacks (sides p)) 0 region)
-            ∙ ap (λ (s : Built). firsts_from (length s.right) (sides p) (row_equations l.region h 0 (sides p) p.entries ++ bound_equations region (row_slacks (sides p)) 0 region)) z
-            ∙ ap (λ (l : Laid). firsts_from 0 (sides p) (row_equations l.region h 0 (sides p) p.entries ++ bound_equations region (row_slacks (sides p)) 0 region)) m
-            ∙ ap (λ (h : List ℚ). firsts_from 0 (sides p) (row_equations region h 0 (sides p) p.entries ++ bound_equations region (row_slacks (sides p)) 0 region)) k;
+        entries = ap (λ (b : Built). b.entries) rows.2 ∙ ap (λ (n : ℕ). joined (map (matrix_row n) es)) count ∙ ap (λ (f : Form). joined f.matrix) same;
+        right = ap (λ (b : Built). b.right) rows.2 ∙ ap (λ (f : Form). f.right) same;
+        quadratic = q ∙ ap (λ (l : Laid). joined (quadratic_rows l p.pairs)) m ∙ ap (λ (f : Form). joined f.quadratic) same;
+        cost = ap (λ (o : List ℚ × ℚ). o.0) o.2 ∙ ap (λ (l : Laid). padded (all_slacks l) (spread l.region costs)) m ∙ ap (λ (f : Form). f.cost) same;
+        constant = ap (λ (o : List ℚ × ℚ). o.1) o.2 ∙ ap (λ (f : Form). f.constant) same;
+        firsts = f ∙ ap (λ (l : Laid). firsts_from 0 (sides p) (equations p l.region)) m;
       },
     )
 

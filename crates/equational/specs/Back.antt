@@ -10,7 +10,7 @@ use Rattle.frac_core.specs.Calculated.{◌>>=◌}
 use Rattle.equational_law.specs.Calculation.{point_entry_in, ray_entry_in, point_in, ray_in}
 use Rattle.equational.specs.declared.back.Carried.{Carried}
 use Rattle.equational.specs.declared.back.Carried.TheVariants.{Point, Direction}
-use Rattle.equational.specs.declared.kept.First.{First}
+use Rattle.equational_rows.specs.declared.equations.First.{First}
 
 -- a column's number
 abbrev pub column_in : Carried → Standing → List ℚ → Result ℚ Refused

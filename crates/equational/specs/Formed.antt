@@ -1,27 +1,14 @@
 -- A form as it is kept: its parts, and how its columns and equations came from a program and a region.
-use Rattle.std.specs.Prelude.{◌≡◌, ℕ, ◌+◌, ◌<◌, ◌≤◌, List, [], ◌∷◌, length, drop, Bool, false}
+use Rattle.std.specs.Prelude.{◌≡◌, ℕ, ◌<◌, ◌≤◌, List, length}
 use Rattle.std.specs.List.{All}
-use Rattle.program_law.specs.declared.Row.{Row}
 use Rattle.program_law.specs.Region.{Region}
 use Rattle.program_law.specs.Program.{Program, sides}
 use Rattle.rational.specs.Vectors.{IsSymmetric}
 use Rattle.equational_law.specs.Standing.{parts}
 use Rattle.equational_law.specs.Solutions.{IsForm}
-use Rattle.equational_law.specs.Equations.{Equation, count_by, is_negated}
 use Rattle.equational_law.specs.Form.{Form, equations, form_of}
-use Rattle.equational.specs.declared.kept.First.{First}
-
--- whether the first of these equations is negated
-abbrev pub begins_negated : List Equation → Bool
-begins_negated [] = false
-begins_negated (e ∷ es) = is_negated e
-
--- the first equation of each row, where k equations come before these
-abbrev pub firsts_from : ℕ → List Row → List Equation → List First
-firsts_from k [] es = []
-firsts_from k (s ∷ ss) es =
-    let count = (count_by s.low s.high).0 in
-    record { equation = k; negated = begins_negated es } ∷ firsts_from (k + count) ss (drop count es)
+use Rattle.equational_rows.specs.Firsts.{firsts_from}
+use Rattle.equational_rows.specs.declared.equations.First.{First}
 
 -- the form; the region, whose bounds say how the columns stand; and the first equation of each row of the file
 pub record Formed : Type 0 where

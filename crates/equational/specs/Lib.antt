@@ -1,3 +1,3 @@
 pub mod Formed
 pub mod Back
-pub mod Built
+pub mod Made

@@ -3,38 +3,35 @@
 ghost use Rattle.std.specs.Prelude.{◌≡◌};
 ghost use Rattle.program_law.specs.Region.{Region};
 ghost use Rattle.program_law.specs.Program.{Program};
-ghost use Rattle.equational.specs.Built.{IsMade};
+ghost use Rattle.equational.specs.Made.{IsMade};
 ghost use Rattle.equational.specs.Formed.{formed};
 
-use crate::kept::{First, Form};
-use crate::layout::Layout;
-use crate::rows::Rows;
+use crate::kept::Form;
+use crate::objective::Objective;
+use equational_rows::{First, Layout, Rows};
 use exact_matrix::Matrix;
-use frac_core::{Frac, Vector};
 
-// The form with these columns and equations, with the rows of Q one after another, and with this cost and constant.
+// The form with these columns and equations, and with this objective.
 pub(crate) fn assembled(
     layout: Layout,
     rows: Rows,
     firsts: Vec<First>,
-    quadratic: Vec<Frac>,
-    cost: Vector<Frac>,
-    constant: Frac,
+    objective: Objective,
 ) -> Form
-    requires { (p : Program) × ((region : Region) × IsMade p region layout rows firsts.items quadratic.items cost constant) }
-    ensures { (p : Program) (region : Region) → IsMade p region layout rows firsts.items quadratic.items cost constant → result ≡ formed p region }
+    requires { (p : Program) × ((region : Region) × IsMade p region layout rows firsts.items objective.quadratic.items objective.cost objective.constant) }
+    ensures { (p : Program) (region : Region) → IsMade p region layout rows firsts.items objective.quadratic.items objective.cost objective.constant → result ≡ formed p region }
 {
     let width = layout.width();
     let height = rows.len();
     let (entries, right) = rows.into_parts();
     let matrix = Matrix::of_rows(entries, height, width);
-    let quadratic = Matrix::of_rows(quadratic, width, width);
+    let quadratic = Matrix::of_rows(objective.quadratic, width, width);
     Form {
         matrix,
         right,
         quadratic,
-        cost,
-        constant,
+        cost: objective.cost,
+        constant: objective.constant,
         bounds: layout.into_bounds(),
         firsts,
     }

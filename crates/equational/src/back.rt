@@ -11,8 +11,7 @@ ghost use Rattle.rational.specs.Sums.{entry};
 ghost use Rattle.std.specs.List.{All};
 ghost use Rattle.std.specs.Prelude.{◌≡◌, ◌<◌, ◌≤◌, ◌+◌, drop, length, map, IfOk};
 
-use crate::kept::First;
-use crate::layout::parts_of;
+use equational_rows::{First, parts_of};
 use exact_matrix::Stop;
 use frac_core::{Frac, Memory, Refused, Vector, added, subtracted};
 use program_law::Row;

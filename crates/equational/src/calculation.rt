@@ -8,14 +8,12 @@ ghost use Rattle.exact_matrix.specs.Stops.{IsAnswerOf, Answers};
 ghost use Rattle.equational.specs.Formed.{formed};
 
 use crate::assembly::assembled;
-use crate::equations::{columns_taken, rows_taken};
 use crate::kept::Form;
-use crate::layout::Layout;
-use crate::objective::{objective, shift};
-use crate::quadratic::{cost, quadratic};
-use crate::rows::Rows;
+use crate::objective::{objective_of, shift};
+use equational_rows::{Layout, all_equations};
 use exact_matrix::Stop;
-use program_model::{Program, Region};
+use program_data::Program;
+use program_regions::Region;
 use std::alloc::Global;
 
 fn calculated(alloc: Global, p: &Program, region: &Region) -> Result<Form, Stop>
@@ -26,13 +24,9 @@ fn calculated(alloc: Global, p: &Program, region: &Region) -> Result<Form, Stop>
     let _columns = p.columns();
     let layout = Layout::of(alloc, p, region)?;
     let h = shift(alloc, layout.bounds())?;
-    let (costs, constant) = objective(alloc, p, &h)?;
-    let mut rows = Rows::new(alloc);
-    let firsts = rows_taken(alloc, &mut rows, &layout, p, &h)?;
-    columns_taken(&mut rows, &layout)?;
-    let quadratic = quadratic(alloc, &layout, p)?;
-    let cost = cost(alloc, &layout, &costs)?;
-    Ok(assembled(layout, rows, firsts, quadratic, cost, constant))
+    let objective = objective_of(alloc, &layout, p, &h)?;
+    let (rows, firsts) = all_equations(alloc, &layout, p, &h)?;
+    Ok(assembled(layout, rows, firsts, objective))
 }
 
 /// The equational form of a program in a region that isn't crossed.

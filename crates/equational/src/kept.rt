@@ -12,18 +12,12 @@ ghost use Rattle.exact_matrix.specs.Stops.{Answers, IsAnswerOf};
 ghost use Rattle.equational.specs.Formed.{formed};
 
 use crate::back::{Carried, columns_back, rows_back};
+use equational_rows::First;
 use exact_matrix::{Matrix, Stop};
 use frac_core::{Frac, Memory, Vector};
 use program_law::Row;
 use std::alloc::Global;
 use std::marker::Model;
-
-// The first equation of a row of the file, and whether it was negated.
-#[derive(Clone, Copy)]
-pub(crate) struct First {
-    pub(crate) equation: usize,
-    pub(crate) negated: bool,
-}
 
 /// The equational form of a program in a region: minimise `½ z^T Q z + c·z + c0` where `M z = r` and z is not below 0; with how its
 /// columns and equations came from the program and the region.

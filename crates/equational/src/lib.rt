@@ -4,13 +4,8 @@
 mod assembly;
 mod back;
 mod calculation;
-mod equations;
 mod kept;
-mod layout;
-mod lists;
 mod objective;
-mod quadratic;
-mod rows;
 
 pub use calculation::form;
 pub use kept::Form;

@@ -19,7 +19,7 @@ use Rattle.program_law.specs.Region.{Region, IsCrossedRegion}
 use Rattle.program_law.specs.Value.{half}
 use Rattle.program_law.specs.Columns.{value, IsRelaxedPoint}
 use Rattle.certificate_law.specs.Leaf.{gradient, residual, HasAllSides, total, lower_bound, IsGoodBound}
-use Rattle.certificate_law.proofs.Convex.{halves}
+use Rattle.program_law.proofs.Squared.{halves}
 use Rattle.certificate_law.proofs.Leaves.{total_le}
 use Rattle.equational_law.specs.Standing.{Standing, Above, Below, Free, standing, spread_at, spread, shift, change, parts}
 use Rattle.equational_law.specs.Equations.{right_of}

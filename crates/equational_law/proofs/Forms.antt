@@ -12,7 +12,6 @@ use Rattle.rational.proofs.Order.{ordered_rationals}
 use Rattle.rational.proofs.Bounds.{half-two}
 use Rattle.rational.proofs.Vectors.{dot_comm, dot-zeros_left, dot-add_left, dot-add_right, rows_dot-append, rows_dot-add, length-rows_dot}
 use Rattle.rational.proofs.Forms.{form_comm}
-use Rattle.program_law.specs.Vectors as program_vectors
 use Rattle.program_law.specs.Region.{Region}
 use Rattle.program_law.specs.Program.{Program, IsProgram}
 use Rattle.program_law.specs.Columns.{value}
@@ -92,21 +91,8 @@ costing p region z h k =
 
 -- ---- the value
 
-same_entry : (xs : List ℚ) (j : ℕ) → program_vectors.at xs j ≡ entry xs j
-same_entry [] j = refl
-same_entry (x ∷ xs) zero = refl
-same_entry (x ∷ xs) (suc j) = same_entry xs j
-
-same_row : (rows : List (List ℚ)) (j : ℕ) → program_vectors.row_at rows j ≡ row_at rows j
-same_row [] j = refl
-same_row (r ∷ rows) zero = refl
-same_row (r ∷ rows) (suc j) = same_row rows j
-
 pub symmetric_pairs : (p : Program) → IsProgram p → IsSymmetric (length p.columns) p.pairs
-symmetric_pairs p is =
-    let same : (i j : ℕ) → entry (row_at p.pairs i) j ≡ program_vectors.at (program_vectors.row_at p.pairs i) j =
-    λ i j. sym (same_entry (row_at p.pairs i) j) ∙ ap (λ r. program_vectors.at r j) (sym (same_row p.pairs i)) in
-    record { rows = is.pairs_height; columns = is.pairs_width; same = λ i j _ _. same i j ∙ is.symmetric i j ∙ sym (same j i) }
+symmetric_pairs p is = record { rows = is.pairs_height; columns = is.pairs_width; same = λ i j _ _. is.symmetric i j }
 
 half_is : half ≡ fraction (pos 1) 2
 unfolding half

@@ -15,7 +15,7 @@ use Rattle.rational.proofs.Field.{rationals}
 use Rattle.rational.proofs.Order.{ordered_rationals, le_refl, lt_le, le_antisymm, le_or_lt}
 use Rattle.rational.proofs.OrderLaws.{sub_nonneg}
 use Rattle.rational.proofs.Vectors.{dot-zeros_left, length-zeros}
-use Rattle.program_law.specs.Tests.{is_negative}
+use Rattle.rational.specs.Tests.{is_negative}
 use Rattle.program_law.proofs.Numbers.{negative_below, below_negative}
 use Rattle.program_law.specs.declared.Row.{Row}
 use Rattle.program_law.specs.Region.{Region}

@@ -13,7 +13,7 @@ use Rattle.rational.specs.Vectors.{dot, zeros, unit_vector, rows_dot, row_at, Ha
 use Rattle.rational.proofs.Order.{ordered_rationals, lt_le, le_or_lt}
 use Rattle.rational.proofs.Vectors.{dot_comm, dot-unit_vector, length-zeros, length-rows_dot, length-row_at, entry-rows_dot}
 use Rattle.rational.proofs.Forms.{form_comm}
-use Rattle.program_law.specs.Tests.{is_negative}
+use Rattle.rational.specs.Tests.{is_negative}
 use Rattle.program_law.proofs.Numbers.{negative_below, below_negative}
 use Rattle.program_law.specs.Region.{Region}
 use Rattle.program_law.specs.Program.{Program, IsProgram, sides}

@@ -9,7 +9,7 @@ use Rattle.rational.specs.Sums.{entry}
 use Rattle.rational.proofs.Order.{ordered_rationals, le_refl, le_or_lt, le_antisymm, lt_irrefl}
 use Rattle.rational.proofs.OrderLaws.{le_of_eq, not-le_of_lt}
 use Rattle.program_law.proofs.Numbers.{positive_above, negative_below, above_positive}
-use Rattle.program_law.specs.Tests.{is_positive}
+use Rattle.rational.specs.Tests.{is_positive}
 use Rattle.program_law.specs.declared.Row.{Row}
 use Rattle.certificate_law.specs.Leaf.{side_for, HasSide}
 use Rattle.equational_law.specs.Standing.{shift_at, spread_at, standing_by}

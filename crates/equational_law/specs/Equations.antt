@@ -3,7 +3,7 @@ use Rattle.std.specs.Prelude.{ℕ, suc, ◌+◌, ◌-◌, List, [], ◌∷◌, �
 use Rattle.rational.specs.Rational.{ℚ, one_ℚ, neg_ℚ, ◌-ℚ◌}
 use Rattle.rational.specs.Order.{same_fields}
 use Rattle.rational.specs.Vectors.{dot, zeros, unit_vector}
-use Rattle.program_law.specs.Tests.{is_negative}
+use Rattle.rational.specs.Tests.{is_negative}
 use Rattle.program_law.specs.declared.Row.{Row}
 use Rattle.program_law.specs.Region.{Region}
 use Rattle.equational_law.specs.Standing.{spread}

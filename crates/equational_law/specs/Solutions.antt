@@ -6,7 +6,6 @@ use Rattle.rational.specs.Order.{◌≤ℚ◌}
 use Rattle.rational.specs.Vectors.{dot, rows_dot, zeros, HasColumns}
 use Rattle.program_law.specs.Region.{Region}
 use Rattle.program_law.specs.Program.{Program, sides}
-use Rattle.program_law.specs.Vectors.{times}
 use Rattle.certificate_law.specs.Ray.{AllKeepSides, AreZero}
 use Rattle.equational_law.specs.Form.{Form}
 
@@ -38,9 +37,9 @@ pub record IsFormRay (f : Form) (d : List ℚ) : Type 0 where
 
 -- a direction that leads out of no side of a row and no bound of a region, with Q d = 0 and c · d = -1
 pub record IsRegionRay (p : Program) (region : Region) (d : List ℚ) : Type 0 where
-  pub rows : AllKeepSides (sides p) (times p.entries d)
+  pub rows : AllKeepSides (sides p) (rows_dot p.entries d)
   pub columns : AllKeepSides region d
-  pub flat : AreZero (times p.pairs d)
+  pub flat : AreZero (rows_dot p.pairs d)
   pub falls : dot p.costs d ≡ neg_ℚ one_ℚ
 
 -- as many columns, and each bound that the first region has, the second has too, whatever its number

@@ -1,5 +1,5 @@
 -- The answers on systems and inverses are those of the elimination, and right.
-use Rattle.std.proofs.Common.{◌≡◌, ℕ, ◌*◌, List, length, map, Option, Some, None, sym, ap, ◌∙◌, subst, refl}
+use Rattle.std.proofs.Common.{◌≡◌, ℕ, ◌*◌, List, length, map, replicate, Option, Some, None, sym, ap, ◌∙◌, subst, refl}
 use Rattle.std.specs.Prelude.{Result, Ok, Err}
 use Rattle.std.specs.List.{All}
 use Rattle.std.specs.Option.{option_map}
@@ -9,20 +9,20 @@ use Rattle.frac_core.specs.Operations.{IsWithin}
 use Rattle.frac_core.specs.declared.fractions.Refused.{Refused}
 use Rattle.exact_matrix.specs.declared.systems.Stop.{Stop}
 use Rattle.exact_matrix.specs.declared.systems.Stop.TheVariants.{Memory, Past}
-use Rattle.exact_matrix.specs.Elimination.{Line, eliminated}
-use Rattle.exact_matrix.specs.EliminationAnswers.{Answer, answer_of, solved, inverse, inverse_from, lines_of, solve_rows, invert_rows}
-use Rattle.exact_matrix.specs.EliminationCalculation.{eliminated_in}
-use Rattle.exact_matrix.specs.EliminationMeaning.{IsRight, IsInverseOrDepends}
-use Rattle.exact_matrix.specs.EliminationOperations.{elimination_ops}
+use Rattle.elimination_law.specs.Elimination.{Line, eliminated}
+use Rattle.elimination_law.specs.Answers.{Answer, answer_of, solved, inverse, inverse_from, lines_of, solve_rows, invert_rows}
+use Rattle.elimination_law.specs.Calculation.{eliminated_in}
+use Rattle.elimination_law.specs.Meaning.{IsRight, IsInverseOrDepends}
+use Rattle.elimination_law.specs.Operations.{elimination_ops}
 use Rattle.exact_matrix.specs.Grid.{Grid, IsGrid, rows_of}
-use Rattle.exact_matrix.specs.State.{values}
+use Rattle.exact_matrix.specs.State.{state, values}
 use Rattle.exact_matrix.specs.Stops.{IsFirstStop, Stops}
 use Rattle.exact_matrix.specs.Systems.{joined}
-use Rattle.exact_matrix.proofs.EliminationCalculated.{eliminated_in-exact, eliminated_in-first, eliminated_in-within}
-use Rattle.exact_matrix.proofs.EliminationInverted.{inverse_or_depends}
-use Rattle.exact_matrix.proofs.EliminationSolved.{answer_is_right}
-use Rattle.exact_matrix.proofs.EliminationWithout.{solve_rows_width}
-use Rattle.exact_matrix.proofs.Assembled.{assembled, assembled_length, invert_rows_width, values_width, values_length}
+use Rattle.elimination_law.proofs.Calculated.{eliminated_in-exact, eliminated_in-first, eliminated_in-within}
+use Rattle.elimination_law.proofs.Inverted.{inverse_or_depends}
+use Rattle.elimination_law.proofs.Solved.{answer_is_right}
+use Rattle.elimination_law.proofs.Without.{solve_rows_width}
+use Rattle.exact_matrix.proofs.Assembled.{assembled, assembled_length, state_fresh, invert_rows_width, values_width, values_length}
 use Rattle.std.proofs.lemmas.List.{length-map}
 
 -- the same rows are eliminated, of which there may be two names
@@ -110,3 +110,8 @@ invert_found v m s top n ls xs h l f e k x =
 pub invert_missing : {F : Type 0} (v : F → ℚ) (m s : Grid F) (top n : ℕ) (ls : List Line) → IsGrid m → n ≡ m.columns → values v s ≡ invert_rows (values v m) →
     eliminated_in top n (lines_of (values v s)) ≡ Ok ls → None ≡ option_map joined (inverse_from n 0 n ls) → None ≡ inverse m.columns (values v m)
 invert_missing v m s top n ls h f e k x = none_by _ x ∙ inverse_is v m s top n ls h f e k
+
+-- of rows that aren't used yet, as the program holds them
+pub stops_fresh : {F : Type 0} (v : F → ℚ) (ps : List (Option ℕ)) (k : ℕ) (m : Grid F) (top n : ℕ) (stop : Stop) → k ≡ length m.rows → ps ≡ replicate k None →
+    Stops stop (eliminated_in top n (state v ps m)) → Stops stop (eliminated_in top n (lines_of (values v m)))
+stops_fresh v ps k m top n stop e h s = subst (λ (ls : List Line). Stops stop (eliminated_in top n ls)) (state_fresh v ps k m e h) s

@@ -10,14 +10,14 @@ use Rattle.rational.specs.Rational.{ℚ, zero_ℚ, one_ℚ}
 use Rattle.rational.specs.Sums.{entry}
 use Rattle.rational.specs.Vectors.{unit_vector, HasColumns}
 use Rattle.rational.proofs.Vectors.{length-unit_vector, entry-unit_vector_same, entry-unit_vector_other}
-use Rattle.exact_matrix.specs.Elimination.{Line, is_pivot, pivot_row, unused}
-use Rattle.exact_matrix.specs.EliminationAnswers.{Solution, Refutation, answer_by, answer_of, lines_of, beside, right_beside, unit_rows, unit_matrix, solve_rows, invert_rows, row_of_pivot, entry_in, solution_from, inverse_from, part_then}
+use Rattle.elimination_law.specs.Elimination.{Line, is_pivot, pivot_row, unused}
+use Rattle.elimination_law.specs.Answers.{Solution, Refutation, answer_by, answer_of, lines_of, beside, right_beside, unit_rows, unit_matrix, solve_rows, invert_rows, row_of_pivot, entry_in, solution_from, inverse_from, part_then}
 use Rattle.exact_matrix.specs.Grid.{Grid, IsGrid, row_at, rows_of}
 use Rattle.exact_matrix.specs.State.{lines, state, values, IsPivotAt}
 use Rattle.exact_matrix.specs.Systems.{joined, IsPlaceOfPivot}
-use Rattle.exact_matrix.proofs.EliminationVectors.{length-unit_rows, width-unit_rows, length-right_beside, width-beside}
-use Rattle.exact_matrix.proofs.EliminationWithout.{solve_rows_width}
-use Rattle.exact_matrix.proofs.EliminationPivots.{same_column, differs}
+use Rattle.elimination_law.proofs.Vectors.{length-unit_rows, width-unit_rows, length-right_beside, width-beside}
+use Rattle.elimination_law.proofs.Without.{solve_rows_width}
+use Rattle.elimination_law.proofs.Pivots.{same_column, differs}
 
 -- ---- a row of the unit matrix
 

@@ -1,17 +1,5 @@
 pub mod Grids
-pub mod WorkedElimination
 pub mod Passes
 pub mod States
 pub mod Assembled
-pub mod EliminationLines
-pub mod EliminationCalculated
-pub mod EliminationKernel
-pub mod EliminationPivots
-pub mod EliminationVectors
-pub mod EliminationTailed
-pub mod EliminationSolved
-pub mod EliminationFree
-pub mod EliminationInverted
-pub mod EliminationFacts
-pub mod EliminationWithout
 pub mod Answered

@@ -10,7 +10,7 @@ use Rattle.frac_core.specs.declared.fractions.Tried.TheVariants.{Is, Past}
 use Rattle.frac_core.specs.Calculated.{tried_in}
 use Rattle.frac_core.specs.Row.{Row, Entries, Refusal, entry_then}
 use Rattle.frac_core.proofs.RowLemmas.{append_row}
-use Rattle.exact_matrix.specs.EliminationCalculation.{divide_step, divided_in}
+use Rattle.elimination_law.specs.Calculation.{divide_step, divided_in}
 
 pub divide_zero : (top : ℕ) (q x : ℚ) → same_fields x zero_ℚ ≡ true → divide_step top q x ≡ Is x
 unfolding divide_step

@@ -11,8 +11,8 @@ use Rattle.rational.specs.Sums.{entry}
 use Rattle.rational.proofs.Wholes.{num-ne_of_test}
 use Rattle.frac_core.specs.declared.fractions.Refused.{Refused}
 use Rattle.exact_matrix.specs.Grid.{Grid, row_at, with_row}
-use Rattle.exact_matrix.specs.Elimination.{Line, used, is_pivot, is_unused, may_pivot, pivot_row, with_pivot}
-use Rattle.exact_matrix.specs.EliminationCalculation.{freed_in, each_freed_in, line_then, with_entries, divided_in, cleared_by, step_in_by, step_in, eliminated_from_in}
+use Rattle.elimination_law.specs.Elimination.{Line, used, is_pivot, is_unused, may_pivot, pivot_row, with_pivot}
+use Rattle.elimination_law.specs.Calculation.{freed_in, each_freed_in, line_then, with_entries, divided_in, cleared_by, step_in_by, step_in, eliminated_from_in}
 use Rattle.exact_matrix.specs.State.{lines, state, IsPivotAt, IsSameShape}
 use Rattle.frac_core.specs.Calculated.{◌>>=◌, Leaves}
 use Rattle.frac_core.specs.Row.{Row, Entries, Refusal, IsRow, row_less}

@@ -1,10 +1,4 @@
 pub mod Grid
-pub mod Elimination
-pub mod EliminationAnswers
-pub mod EliminationOperations
-pub mod EliminationCalculation
-pub mod EliminationMeaning
-pub mod EliminationTails
 pub mod State
 pub mod Systems
 pub mod Stops

@@ -3,7 +3,7 @@ use Rattle.std.specs.Prelude.{◌≡◌, ◌≢◌, ◌<◌, ℕ, pos, List, [],
 use Rattle.rational.specs.Rational.{ℚ}
 use Rattle.rational.specs.Sums.{entry}
 use Rattle.exact_matrix.specs.Grid.{Grid, row_at}
-use Rattle.exact_matrix.specs.Elimination.{Line, used, pivot_row, with_pivot}
+use Rattle.elimination_law.specs.Elimination.{Line, used, pivot_row, with_pivot}
 
 -- rows with their pivots
 abbrev pub lines : List (Option ℕ) → List (List ℚ) → List Line

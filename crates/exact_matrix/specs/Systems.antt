@@ -3,7 +3,7 @@ use Rattle.std.specs.Prelude.{◌≡◌, ◌<◌, ℕ, List, [], ◌∷◌, ◌+
 use Rattle.rational.specs.Rational.{ℚ}
 use Rattle.exact_matrix.specs.declared.systems.Solved.{Solved}
 use Rattle.exact_matrix.specs.declared.systems.Solved.TheVariants as answers
-use Rattle.exact_matrix.specs.EliminationAnswers.{Answer, Solution, Refutation, row_of_pivot}
+use Rattle.elimination_law.specs.Answers.{Answer, Solution, Refutation, row_of_pivot}
 use Rattle.exact_matrix.specs.State.{lines}
 
 -- the numbers of an answer

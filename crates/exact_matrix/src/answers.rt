@@ -1,6 +1,6 @@
 // What eliminated rows answer.
 
-ghost use Rattle.exact_matrix.specs.EliminationAnswers.{answer_of, entry_in, inverse_from, row_of_pivot, solution_from};
+ghost use Rattle.elimination_law.specs.Answers.{answer_of, entry_in, inverse_from, row_of_pivot, solution_from};
 ghost use Rattle.exact_matrix.specs.State.{state};
 ghost use Rattle.exact_matrix.specs.Systems.{answer_value, joined, IsPlaceOfPivot};
 ghost use Rattle.std.specs.Option.{option_map};

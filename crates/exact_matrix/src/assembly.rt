@@ -1,6 +1,6 @@
 // The rows that are eliminated: those of [M | r | I] and of [M | I].
 
-ghost use Rattle.exact_matrix.specs.EliminationAnswers.{invert_rows, solve_rows};
+ghost use Rattle.elimination_law.specs.Answers.{invert_rows, solve_rows};
 ghost use Rattle.exact_matrix.specs.Grid.{IsGrid, row_at};
 ghost use Rattle.exact_matrix.specs.State.{values};
 ghost use Rattle.rational.specs.Rational.{one_ℚ, zero_ℚ};

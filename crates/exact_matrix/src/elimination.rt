@@ -1,7 +1,7 @@
 // The elimination of the first columns of a matrix.
 
-ghost use Rattle.exact_matrix.specs.Elimination.{is_pivot, may_pivot};
-ghost use Rattle.exact_matrix.specs.EliminationCalculation.{freed_in, each_freed_in, step_in, eliminated_in};
+ghost use Rattle.elimination_law.specs.Elimination.{is_pivot, may_pivot};
+ghost use Rattle.elimination_law.specs.Calculation.{freed_in, each_freed_in, step_in, eliminated_in};
 ghost use Rattle.exact_matrix.specs.Grid.{row_at, with_row};
 ghost use Rattle.exact_matrix.specs.State.{state, IsPivotAt, IsPivotPlace, IsSameShape};
 ghost use Rattle.frac_core.specs.Calculated.{Leaves};

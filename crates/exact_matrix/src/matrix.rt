@@ -1,7 +1,7 @@
 // A matrix in one piece of memory, row after row.
 
 ghost use Rattle.exact_matrix.specs.Grid.{IsGrid, row_at, with_row, rows_of};
-ghost use Rattle.exact_matrix.specs.EliminationCalculation.{divided_in};
+ghost use Rattle.elimination_law.specs.Calculation.{divided_in};
 ghost use Rattle.frac_core.specs.Row.{IsRow, row_less};
 ghost use Rattle.std.specs.Prelude.{◌≡◌, ◌<◌, ◌*◌, length, replicate, slice_get, slice_set, map, pos, unsigned_abs, ◌≢◌, Some, IfOk};
 

@@ -1,6 +1,6 @@
 // A row divided by a number, in place.
 
-ghost use Rattle.exact_matrix.specs.EliminationCalculation.{divide_step, divided_in};
+ghost use Rattle.elimination_law.specs.Calculation.{divide_step, divided_in};
 ghost use Rattle.frac_core.specs.Dot.{IsAnswer};
 ghost use Rattle.frac_core.specs.Row.{IsRow};
 ghost use Rattle.std.specs.Prelude.{◌≢◌, map, pos, unsigned_abs};

@@ -1,9 +1,9 @@
 // Systems of equations and inverses, by elimination.
 
-ghost use Rattle.exact_matrix.specs.EliminationAnswers.{inverse, invert_rows, lines_of, solve_rows, solved};
-ghost use Rattle.exact_matrix.specs.EliminationCalculation.{eliminated_in};
-ghost use Rattle.exact_matrix.specs.EliminationMeaning.{IsInverseOrDepends, IsRight};
-ghost use Rattle.exact_matrix.specs.EliminationOperations.{elimination_ops};
+ghost use Rattle.elimination_law.specs.Answers.{inverse, invert_rows, lines_of, solve_rows, solved};
+ghost use Rattle.elimination_law.specs.Calculation.{eliminated_in};
+ghost use Rattle.elimination_law.specs.Meaning.{IsInverseOrDepends, IsRight};
+ghost use Rattle.elimination_law.specs.Operations.{elimination_ops};
 ghost use Rattle.exact_matrix.specs.Grid.{IsGrid};
 ghost use Rattle.exact_matrix.specs.State.{state, values, IsSameShape};
 ghost use Rattle.exact_matrix.specs.Stops.{IsAnswerIn, Stops};
@@ -69,6 +69,25 @@ pub enum Solved<F> {
     Refuted(Vector<F>, F),
 }
 
+// Eliminates the first `n` columns, with room for a row of its own.
+fn eliminate_in_room<F: ExactField>(
+    alloc: Global,
+    rows: &mut Matrix<F>,
+    pivots: &mut Vector<Option<usize>>,
+    n: usize,
+) -> Result<(), Stop>
+    requires rows { length pivots.old ≡ length rows.old.rows }
+    requires columns { n ≤ rows.old.columns }
+    ensures ok { OnOk result (eliminated_in (unsigned_abs F.TOP) n (state F.value pivots.old rows.old) ≡ Ok (state F.value pivots.new rows.new)) }
+    ensures shape { OnOk result (IsSameShape rows.old rows.new) }
+    ensures pivots { OnOk result (length pivots.new ≡ length pivots.old) }
+    ensures err { IfErr result (λ stop. Stops stop (eliminated_in (unsigned_abs F.TOP) n (state F.value pivots.old rows.old))) }
+{
+    let mut p = Vec::from_elem(alloc, F::zero(), rows.columns())?;
+    eliminate(rows, pivots, n, &mut p)?;
+    Ok(())
+}
+
 // Eliminates the first `n` columns. The answer is the column with its pivot in each row.
 fn eliminated<F: ExactField>(
     alloc: Global,
@@ -82,8 +101,7 @@ fn eliminated<F: ExactField>(
     ensures err { IfErr result (λ stop. Stops stop (eliminated_in (unsigned_abs F.TOP) n (lines_of (values F.value rows.old)))) }
 {
     let mut pivots = Vector::filled(alloc, rows.rows(), None)?;
-    let mut p = Vec::from_elem(alloc, F::zero(), rows.columns())?;
-    eliminate(rows, &mut pivots, n, &mut p)?;
+    eliminate_in_room(alloc, rows, &mut pivots, n)?;
     Ok(pivots)
 }
 

@@ -17,9 +17,9 @@ use Rattle.rational.proofs.Bounds.{half-two}
 use Rattle.rational.proofs.Vectors.{length-zeros, length-scale, length-add_each, length-rows_dot, dot_comm, dot-zeros_left, dot-zeros_right, dot-add_left, dot-append, dot-scale_left, dot-scale_right, entry-add_each, entry-scale, rows_dot-add, rows_dot-scale, combine-scale}
 use Rattle.rational.proofs.Forms.{null_of_form, expansion, combine_is_rows_dot, form_comm}
 use Rattle.rational.proofs.Supports.{dot-pick, length-pick, length-put_at, put_at_off}
-use Rattle.exact_matrix.specs.EliminationAnswers.{Solution, Refutation}
-use Rattle.exact_matrix.specs.EliminationMeaning.{IsRight, Solves, Refutes}
-use Rattle.exact_matrix.proofs.EliminationVectors.{length-front}
+use Rattle.elimination_law.specs.Answers.{Solution, Refutation}
+use Rattle.elimination_law.specs.Meaning.{IsRight, Solves, Refutes}
+use Rattle.elimination_law.proofs.Vectors.{length-front}
 use Rattle.equational_law.specs.Form.{Form}
 use Rattle.equational_law.specs.Solutions.{IsForm}
 use Rattle.face_descent_law.specs.Small.{support, small_rows, small_right, small_width, small_answer, IsStationary, HasMultipliers}

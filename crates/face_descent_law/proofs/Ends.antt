@@ -9,7 +9,7 @@ use Rattle.rational.specs.Vectors.{zeros, quadratic, IsSemidefinite, scale}
 use Rattle.rational.proofs.Order.{le_refl, lt_le, le_or_lt, lt_irrefl}
 use Rattle.rational.proofs.OrderLaws.{le_trans, lt-le_trans}
 use Rattle.rational.proofs.Vectors.{zeros_by_entries}
-use Rattle.exact_matrix.specs.EliminationAnswers.{Answer, Solution, Refutation}
+use Rattle.elimination_law.specs.Answers.{Answer, Solution, Refutation}
 use Rattle.equational_law.specs.Form.{Form}
 use Rattle.equational_law.specs.Solutions.{IsForm, IsSolution, IsFormRay}
 use Rattle.face_descent_law.specs.Small.{support, support_from, small_answer, IsStationary}

@@ -8,9 +8,9 @@ use Rattle.rational.specs.Sums.{entry}
 use Rattle.rational.specs.Vectors.{scale, zeros}
 use Rattle.rational.proofs.Order.{le_refl, lt_le, lt_irrefl, le_antisymm}
 use Rattle.rational.proofs.OrderLaws.{le_trans}
-use Rattle.program_law.specs.Tests.{is_negative, is_positive, is_le}
+use Rattle.rational.specs.Tests.{is_negative, is_positive, is_le}
 use Rattle.program_law.proofs.Numbers.{negative_below, below_negative, le_tested, lt_tested}
-use Rattle.exact_matrix.specs.EliminationAnswers.{Solution, Refutation}
+use Rattle.elimination_law.specs.Answers.{Solution, Refutation}
 use Rattle.equational_law.specs.Form.{Form}
 use Rattle.face_descent_law.specs.Small.{support, small_answer, IsStationary}
 use Rattle.face_descent_law.specs.Step.{on_support, moved, IsWithin, IsNearest, IsCapped, IsTurned, IsSolvedStep, IsRefutedStep, IsShrinkStep}

@@ -14,7 +14,7 @@ use Rattle.rational.proofs.Order.{ordered_rationals}
 use Rattle.rational.proofs.Vectors.{length-zeros, length-add_each, length-rows_dot, length-combine, length-row_at, length-column, length-unit_vector, dot_comm, dot-zeros_left, dot-zeros_right, dot-append, dot-add_right, dot-unit_vector, entry-add_each, entry-rows_dot, entry-combine, rows_dot-append, transpose}
 use Rattle.rational.proofs.Forms.{form_comm}
 use Rattle.rational.proofs.Supports.{dot-pick, length-pick}
-use Rattle.exact_matrix.proofs.EliminationVectors.{length-front}
+use Rattle.elimination_law.proofs.Vectors.{length-front}
 use Rattle.equational_law.specs.Form.{Form}
 use Rattle.equational_law.specs.Solutions.{IsForm}
 use Rattle.face_descent_law.specs.Small.{place_row, equation_row, small_rows, small_width}

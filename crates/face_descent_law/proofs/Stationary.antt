@@ -14,11 +14,11 @@ use Rattle.rational.proofs.Order.{ordered_rationals}
 use Rattle.rational.proofs.Vectors.{length-combine, same_by_dot, dot-zeros_left, dot-zeros_right, transpose, length-zeros, length-scale, length-add_each, length-rows_dot, dot_comm, dot-scale_left, entry-scale, entry-zeros, combine-scale}
 use Rattle.rational.proofs.Forms.{null_of_form}
 use Rattle.rational.proofs.Supports.{dot-pick, length-pick, length-put_at}
-use Rattle.exact_matrix.specs.EliminationAnswers.{Answer, Solution, Refutation}
-use Rattle.exact_matrix.specs.EliminationMeaning.{IsRight, Solves}
-use Rattle.exact_matrix.proofs.EliminationVectors.{length-front, length-back, rows_dot-zeros}
-use Rattle.exact_matrix.proofs.EliminationSolved.{answer_is_right, refuted_has_none}
-use Rattle.exact_matrix.proofs.EliminationFree.{solve_independent, solution_off}
+use Rattle.elimination_law.specs.Answers.{Answer, Solution, Refutation}
+use Rattle.elimination_law.specs.Meaning.{IsRight, Solves}
+use Rattle.elimination_law.proofs.Vectors.{length-front, length-back, rows_dot-zeros}
+use Rattle.elimination_law.proofs.Solved.{answer_is_right, refuted_has_none}
+use Rattle.elimination_law.proofs.Free.{solve_independent, solution_off}
 use Rattle.equational_law.specs.Form.{Form}
 use Rattle.equational_law.specs.Solutions.{IsForm}
 use Rattle.face_descent_law.specs.Small.{support, small_rows, small_right, small_width, small_answer, IsStationary, HasMultipliers}

@@ -8,8 +8,8 @@ use Rattle.rational.proofs.Order.{lt_irrefl, lt_le, whole_positive}
 use Rattle.rational.proofs.OrderLaws.{lt-le_trans, le_of_eq}
 use Rattle.rational.specs.Vectors.{scale}
 use Rattle.program_law.proofs.Numbers.{negative_below}
-use Rattle.exact_matrix.specs.Elimination.{pivot_row, with_pivot, freed, step, eliminated_from}
-use Rattle.exact_matrix.specs.EliminationAnswers.{row_of_pivot, Answer, Solution, Refutation}
+use Rattle.elimination_law.specs.Elimination.{pivot_row, with_pivot, freed, step, eliminated_from}
+use Rattle.elimination_law.specs.Answers.{row_of_pivot, Answer, Solution, Refutation}
 use Rattle.equational_law.specs.Form.{Form}
 use Rattle.face_descent_law.specs.Worked.{n, valley_form}
 use Rattle.face_descent_law.specs.Small.{small_answer, IsStationary}

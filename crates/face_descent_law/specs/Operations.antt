@@ -8,9 +8,9 @@ use Rattle.frac_core.specs.declared.fractions.Op.TheVariants.{Add, Mul, Div}
 use Rattle.frac_core.specs.declared.fractions.Refused.{Refused}
 use Rattle.frac_core.specs.Operations.{operation}
 use Rattle.frac_core.specs.Dot.{dot_ops}
-use Rattle.program_law.specs.Tests.{is_negative, is_positive, is_le}
-use Rattle.exact_matrix.specs.EliminationAnswers.{Answer, Solution, Refutation, lines_of, solve_rows}
-use Rattle.exact_matrix.specs.EliminationOperations.{elimination_ops}
+use Rattle.rational.specs.Tests.{is_negative, is_positive, is_le}
+use Rattle.elimination_law.specs.Answers.{Answer, Solution, Refutation, lines_of, solve_rows}
+use Rattle.elimination_law.specs.Operations.{elimination_ops}
 use Rattle.equational_law.specs.Form.{Form}
 use Rattle.face_descent_law.specs.Small.{slope, support, small_rows, small_right, small_width, small_answer}
 use Rattle.face_descent_law.specs.Step.{on_support}

@@ -6,7 +6,7 @@ use Rattle.rational.specs.Rational.{ℚ, zero_ℚ, neg_ℚ}
 use Rattle.rational.specs.Order.{same_fields}
 use Rattle.rational.specs.Sums.{entry}
 use Rattle.rational.specs.Vectors.{zeros, combine, column, row_at, gradient, quadratic, pick}
-use Rattle.exact_matrix.specs.EliminationAnswers.{Answer, Solution, solved}
+use Rattle.elimination_law.specs.Answers.{Answer, Solution, solved}
 use Rattle.equational_law.specs.Form.{Form}
 
 -- what the form asks at z: ½ z^T Q z + c · z + c0

@@ -4,7 +4,7 @@ use Rattle.rational.specs.Rational.{ℚ, zero_ℚ, one_ℚ, neg_ℚ, ◌/ℚ◌}
 use Rattle.rational.specs.Order.{◌<ℚ◌, ◌≤ℚ◌}
 use Rattle.rational.specs.Sums.{entry}
 use Rattle.rational.specs.Vectors.{add_each, scale, zeros, put_at}
-use Rattle.exact_matrix.specs.EliminationAnswers.{Answer, Solution, Refutation}
+use Rattle.elimination_law.specs.Answers.{Answer, Solution, Refutation}
 use Rattle.equational_law.specs.Form.{Form}
 use Rattle.face_descent_law.specs.Small.{support, small_answer}
 

@@ -5,7 +5,7 @@ ghost use Rattle.rational.specs.Rational.{ℚ, one_ℚ, zero_ℚ, neg_ℚ, ◌+�
 ghost use Rattle.rational.specs.Order.{◌<ℚ◌, ◌≤ℚ◌};
 ghost use Rattle.rational.specs.Sums.{entry};
 ghost use Rattle.rational.specs.Vectors.{IsSemidefinite, dot, rows_dot, zeros};
-ghost use Rattle.exact_matrix.specs.EliminationAnswers.{Refutation, Solution};
+ghost use Rattle.elimination_law.specs.Answers.{Refutation, Solution};
 ghost use Rattle.equational_law.specs.Form.{Form};
 ghost use Rattle.equational_law.specs.Solutions.{IsForm, IsFormRay, IsNotNegative, IsSolution};
 ghost use Rattle.face_descent_law.specs.Small.{IsStationary, height, slope, small_answer, support};

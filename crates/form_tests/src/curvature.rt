@@ -1,6 +1,6 @@
 // The answers for small matrices.
 
-use crate::texts::program_of;
+use crate::programs::program_of;
 use convexity::{Curvature, squares};
 use exact_matrix::Stop;
 use frac_core::{Frac, Op, Refused, Vector};

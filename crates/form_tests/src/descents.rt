@@ -3,23 +3,12 @@
 ghost use Rattle.face_descent_law.specs.Worked.{valley_form};
 ghost use Rattle.std.specs.Prelude.{◌≡◌, IsTrue};
 
-use crate::texts::{VALLEY, program_of};
-use equational::{Form, form};
-use exact_matrix::Stop;
+use crate::programs::{VALLEY, formed, program_of};
+use equational::Form;
 use face_descent::shrink;
 use frac_core::{Frac, Vector, is_zero};
-use program_model::{Program, Region};
 use std::alloc::Global;
 use std::test::Fail;
-
-// The form of a program in the region of its bounds.
-fn formed(alloc: Global, p: &Program) -> Result<Form, Stop> {
-    let region = Region::of(alloc, p)?;
-    if region.crossed().is_some() || region.len() != p.columns() as usize {
-        return Err(Stop::Memory);
-    }
-    form(alloc, p, &region)
-}
 
 fn is_both(a: Frac, b: Frac, x: Frac) -> bool
     ensures { IsTrue result → (a ≡ x) × (b ≡ x) }

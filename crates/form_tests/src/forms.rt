@@ -1,23 +1,14 @@
 // The form of a small program, part by part, and the first operation that is past.
 
-use crate::texts::{FIRST, LARGE_COSTS, program_of};
-use equational::{Form, form};
+use crate::programs::{FIRST, LARGE_COSTS, formed, program_of};
+use equational::Form;
 use exact_matrix::{Matrix, Stop};
 use frac_core::{Frac, Op, Refused, Vector};
-use program_model::{Program, Region};
+use program_data::Program;
 use std::alloc::Global;
 use std::test::Fail;
 
 const MAX: i128 = i128::MAX;
-
-// The form of a program in the region of its bounds.
-fn formed(alloc: Global, p: &Program) -> Result<Form, Stop> {
-    let region = Region::of(alloc, p)?;
-    if region.crossed().is_some() || region.len() != p.columns() as usize {
-        return Err(Stop::Memory);
-    }
-    form(alloc, p, &region)
-}
 
 fn is_vector(v: &Vector<Frac>, numbers: &[i128]) -> bool {
     if v.len() != numbers.len() {

@@ -1,4 +1,4 @@
-//! Tests of single calls on forms: squares, the equational form, and shrink steps.
+//! Tests of single calls on programs and their forms: points, regions, squares, the equational form, and shrink steps.
 #![tactic(auto)]
 
 #[cfg(test)]
@@ -8,4 +8,6 @@ mod descents;
 #[cfg(test)]
 mod forms;
 #[cfg(test)]
-mod texts;
+mod points;
+#[cfg(test)]
+mod programs;

@@ -6,9 +6,9 @@ use Rattle.rational.specs.Rational.{ℚ}
 use Rattle.rational.specs.Sums.{entry}
 use Rattle.rational.specs.Vectors.{dot, zeros, unit_vector, rows_dot, combine, column, row_at, HasColumns}
 use Rattle.rational.proofs.Vectors.{length-combine, length-rows_dot, length-unit_vector, length-row_at, length-column, dot_comm, dot-unit_vector, same_by_entries, entry-rows_dot, entry-combine, entry-column}
-use Rattle.exact_matrix.specs.EliminationAnswers.{inverse}
-use Rattle.exact_matrix.specs.EliminationMeaning.{IsInverse, IsInverseOrDepends}
-use Rattle.exact_matrix.proofs.EliminationInverted.{inverse_or_depends}
+use Rattle.elimination_law.specs.Answers.{inverse}
+use Rattle.elimination_law.specs.Meaning.{IsInverse, IsInverseOrDepends}
+use Rattle.elimination_law.proofs.Inverted.{inverse_or_depends}
 use Rattle.linear_basis_law.specs.Problem.{Problem, IsProblem, height, width, column_of}
 use Rattle.linear_basis_law.specs.Basis.{Tableau, IsBasis, IsInverseOf, basic_columns}
 use Rattle.linear_basis_law.specs.Operations.{below, basic_matrix}

@@ -12,7 +12,7 @@ use Rattle.rational.proofs.Field.{mul-reciprocal}
 use Rattle.rational.proofs.Order.{ordered_rationals, lt_irrefl, le_or_lt, le_refl}
 use Rattle.rational.proofs.OrderLaws.{ne_of_lt, reciprocal_positive, not-le_of_lt}
 use Rattle.rational.proofs.Vectors.{length-rows_dot, length-row_at, length-scale, dot-scale_left, entry-rows_dot, entry-unit_vector_same, entry-unit_vector_other}
-use Rattle.exact_matrix.proofs.EliminationVectors.{length-right_beside}
+use Rattle.elimination_law.proofs.Vectors.{length-right_beside}
 use Rattle.linear_basis_law.specs.Problem.{Problem, IsProblem, height, width, column_of, cost_of}
 use Rattle.linear_basis_law.specs.Lexicographic.{IsLexPositive, IsLexBelow}
 use Rattle.linear_basis_law.specs.Basis.{Tableau, IsBasis, IsStanding, basic_columns, basic_costs, point, multipliers, price, level, tableau_rows}

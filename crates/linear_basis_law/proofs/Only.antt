@@ -11,7 +11,7 @@ use Rattle.rational.proofs.Field.{mul-reciprocal}
 use Rattle.rational.proofs.Order.{ordered_rationals, lt_irrefl, le_or_lt, le_antisymm}
 use Rattle.rational.proofs.OrderLaws.{ne_of_lt, reciprocal_positive}
 use Rattle.rational.proofs.Vectors.{length-rows_dot, length-scale}
-use Rattle.exact_matrix.proofs.EliminationVectors.{length-right_beside}
+use Rattle.elimination_law.proofs.Vectors.{length-right_beside}
 use Rattle.linear_basis_law.specs.Problem.{Problem, IsProblem, height, width, column_of}
 use Rattle.linear_basis_law.specs.Lexicographic.{IsLexPositive, IsLexBelow}
 use Rattle.linear_basis_law.specs.Basis.{Tableau, IsBasis, IsStanding, basic_columns, point, tableau_rows}

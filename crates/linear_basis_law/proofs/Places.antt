@@ -9,7 +9,7 @@ use Rattle.rational.specs.Sums.{entry}
 use Rattle.rational.specs.Vectors.{dot, add_each, scale, rows_dot, column, row_at, HasColumns}
 use Rattle.rational.proofs.Field.{rationals}
 use Rattle.rational.proofs.Vectors.{length-scale, length-add_each, dot-add_scale_left}
-use Rattle.exact_matrix.specs.EliminationAnswers.{right_beside}
+use Rattle.elimination_law.specs.Answers.{right_beside}
 use Rattle.linear_basis_law.specs.Exchange.{add_multiples}
 
 pub same_or_other : (i l : ℕ) → (i ≡ l) ⊎ (i ≢ l)

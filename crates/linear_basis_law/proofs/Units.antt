@@ -11,8 +11,8 @@ use Rattle.rational.proofs.Order.{ordered_rationals, le_or_lt, le_antisymm}
 use Rattle.algebra.proofs.Polynomial.{◌≺◌, lit}
 use Rattle.algebra.proofs.Certificate.{prove, weight, ◌⇐◌}
 use Rattle.rational.proofs.Vectors.{length-unit_vector, length-rows_dot, length-combine, dot_comm, dot-unit_vector, transpose, same_by_dot}
-use Rattle.exact_matrix.specs.EliminationAnswers.{unit_rows, unit_matrix}
-use Rattle.exact_matrix.proofs.EliminationVectors.{length-unit_rows, width-unit_rows, rows_dot-unit, length-right_beside}
+use Rattle.elimination_law.specs.Answers.{unit_rows, unit_matrix}
+use Rattle.elimination_law.proofs.Vectors.{length-unit_rows, width-unit_rows, rows_dot-unit, length-right_beside}
 use Rattle.linear_basis_law.specs.Problem.{Problem, IsProblem, height, width, column_of, cost_of}
 use Rattle.linear_basis_law.specs.Lexicographic.{IsLexPositive}
 use Rattle.linear_basis_law.specs.Basis.{IsBasis, IsInverseOf, IsStanding, basic_columns, point, multipliers, tableau_rows, unit_basis}

@@ -15,7 +15,7 @@ use Rattle.rational.proofs.Order.{ordered_rationals, le_or_lt, le_refl, le_antis
 use Rattle.rational.proofs.OrderLaws.{not-le_of_lt, le_of_eq}
 use Rattle.rational.proofs.Vectors.{length-rows_dot, length-combine, length-unit_vector, length-scale, length-add_each, dot_comm, dot-nil_right, dot-zeros_right, dot-unit_vector, dot-add_scale_right, dot-scale_left, dot-add_left, transpose, same_by_dot, entry-combine, entry-zeros, entry-add_each, entry-scale, entry-unit_vector_same, entry-unit_vector_other}
 use Rattle.rational.proofs.Supports.{length-put_at}
-use Rattle.exact_matrix.proofs.EliminationVectors.{length-right_beside}
+use Rattle.elimination_law.proofs.Vectors.{length-right_beside}
 use Rattle.linear_basis_law.specs.Problem.{Problem, IsProblem, height, column_of, cost_of, IsSolution, IsFarkas}
 use Rattle.linear_basis_law.specs.Lexicographic.{IsLexPositive}
 use Rattle.linear_basis_law.specs.Basis.{Tableau, IsBasis, IsStanding, basic_columns, basic_costs, point, multipliers, price, tableau_rows, IsZeroCost, IsFinal, solution_of, farkas_of}

@@ -8,8 +8,8 @@ use Rattle.frac_core.specs.declared.fractions.Op.TheVariants.{Add, Sub, Mul, Div
 use Rattle.frac_core.specs.declared.fractions.Refused.{Refused}
 use Rattle.frac_core.specs.Operations.{operation}
 use Rattle.frac_core.specs.Dot.{place_ops, dot_ops_from}
-use Rattle.exact_matrix.specs.Elimination.{pivot_row, with_pivot, freed, step, eliminated_from}
-use Rattle.exact_matrix.specs.EliminationOperations.{division_ops, less_ops, freed_ops, each_freed_ops, step_ops, ops_from}
+use Rattle.elimination_law.specs.Elimination.{pivot_row, with_pivot, freed, step, eliminated_from}
+use Rattle.elimination_law.specs.Operations.{division_ops, less_ops, freed_ops, each_freed_ops, step_ops, ops_from}
 use Rattle.linear_basis_law.specs.Problem.{Problem}
 use Rattle.linear_basis_law.specs.Basis.{Tableau, point, multipliers, price, level, unit_basis, farkas_of}
 use Rattle.linear_basis_law.specs.Exchange.{exchanged}

@@ -6,7 +6,7 @@ use Rattle.rational.specs.Rational.{ℚ, zero_ℚ, ◌-ℚ◌, neg_ℚ}
 use Rattle.rational.specs.Order.{◌<ℚ◌}
 use Rattle.rational.specs.Sums.{entry}
 use Rattle.rational.specs.Vectors.{dot, unit_vector, rows_dot, combine, row_at, put_at, HasColumns}
-use Rattle.exact_matrix.specs.EliminationAnswers.{right_beside, unit_matrix}
+use Rattle.elimination_law.specs.Answers.{right_beside, unit_matrix}
 use Rattle.linear_basis_law.specs.Problem.{Problem, height, width, column_of, cost_of}
 use Rattle.linear_basis_law.specs.Lexicographic.{IsLexPositive}
 

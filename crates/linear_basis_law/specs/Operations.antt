@@ -9,8 +9,8 @@ use Rattle.frac_core.specs.declared.fractions.Op.TheVariants.{Sub, Div}
 use Rattle.frac_core.specs.declared.fractions.Refused.{Refused}
 use Rattle.frac_core.specs.Operations.{operation}
 use Rattle.frac_core.specs.Dot.{dot_ops}
-use Rattle.exact_matrix.specs.EliminationAnswers.{lines_of, solve_rows}
-use Rattle.exact_matrix.specs.EliminationOperations.{elimination_ops}
+use Rattle.elimination_law.specs.Answers.{lines_of, solve_rows}
+use Rattle.elimination_law.specs.Operations.{elimination_ops}
 use Rattle.linear_basis_law.specs.Problem.{Problem, height, column_of, cost_of}
 use Rattle.linear_basis_law.specs.Basis.{Tableau, basic_columns, basic_costs, point, multipliers}
 use Rattle.linear_basis_law.specs.Exchange.{coordinates}

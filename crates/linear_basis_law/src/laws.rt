@@ -8,7 +8,7 @@ ghost use Rattle.rational.specs.Sums.{entry};
 ghost use Rattle.rational.specs.Vectors.{combine, dot, zeros};
 ghost use Rattle.std.specs.Prelude.{◌≡◌, ◌<◌, ◌↔◌, ℕ, All, Contains, List, Some, length, replicate};
 ghost use Rattle.linear_basis_law.specs.Operations.{basic_matrix};
-ghost use Rattle.exact_matrix.specs.EliminationAnswers.{inverse};
+ghost use Rattle.elimination_law.specs.Answers.{inverse};
 
 /// The columns of a basis are independent and have one inverse; its point sums them to r. Its multipliers
 /// give each of them its cost, so their prices are 0, and no others do: they and the level depend on the

@@ -9,18 +9,19 @@ ghost use Rattle.exact_matrix.specs.Stops.{IsStopIn};
 ghost use Rattle.linear_basis.specs.Kept.{kept, problem, tableau};
 ghost use Rattle.linear_simplex.specs.Decided.{IsAnswerOf, IsStopOf, IsTrueOf};
 ghost use Rattle.linear_simplex.specs.Turns.{Gives, IsKept, IsNext, IsReached, IsRefusal, IsStopAt, IsStopNear, LeadsTo};
+ghost use Rattle.linear_simplex.specs.Whole.{IsLedTo};
 ghost use Rattle.rational.specs.Rational.{ℚ};
 ghost use Rattle.std.specs.Prelude.{◌≡◌, ◌<◌, ◌≤◌, ◌^◌, List, length, slice_set, IfErr, IfOk, OnOk};
 
 use crate::answers::{Feasible, LinearStop, Next};
 use crate::pricing::entering;
 use crate::products::column;
-use crate::ratio::leaving;
 use crate::verdicts::{is_zero_cost, solution};
 use crate::whole::{Led, whole_chain};
 use exact_matrix::{Matrix, Stop};
 use frac_core::{Frac, Memory, Refused, Vector};
 use linear_basis::{Basis, row_products};
+use ratio_test::leaving;
 use std::alloc::Global;
 
 // A refused operation, with the columns of the basis in whose calculation it stands.
@@ -172,6 +173,43 @@ fn basis_of(
     }
 }
 
+// Goes on in fractions from the basis of these columns, to which a chain of so many strict steps leads.
+fn goes_on_from(
+    alloc: Global,
+    m: &Matrix<Frac>,
+    r: &Vector<Frac>,
+    columns: &Vector<u32>,
+    steps: u64,
+    bases: u64,
+) -> Result<Feasible, LinearStop>
+    requires problem { IsProblem (problem m.now r.now) }
+    requires few { width (problem m.now r.now) < 2 ^ 32 }
+    requires led { IsLedTo (problem m.now r.now) bases columns.now steps }
+    ensures answer { IfOk result (IsAnswerOf (problem m.now r.now) bases) }
+    ensures right { IfOk result (IsTrueOf (problem m.now r.now)) }
+    ensures stop { IfErr result (IsStopOf (problem m.now r.now) bases) }
+{
+    let mut basis = basis_of(alloc, m, r, columns)?;
+    goes_on(alloc, m, r, &mut basis, steps, bases)
+}
+
+// Goes along the chain in fractions, from the unit columns on.
+fn goes_from_start(
+    alloc: Global,
+    m: &Matrix<Frac>,
+    r: &Vector<Frac>,
+    bases: u64,
+) -> Result<Feasible, LinearStop>
+    requires problem { IsProblem (problem m.now r.now) }
+    requires few { width (problem m.now r.now) < 2 ^ 32 }
+    ensures answer { IfOk result (IsAnswerOf (problem m.now r.now) bases) }
+    ensures right { IfOk result (IsTrueOf (problem m.now r.now)) }
+    ensures stop { IfErr result (IsStopOf (problem m.now r.now) bases) }
+{
+    let mut basis = Basis::start(alloc, m, r)?;
+    goes_on(alloc, m, r, &mut basis, 0, bases)
+}
+
 /// Whether `m z = r` has a solution that is not below 0.
 ///
 /// The chain begins with the unit columns. From a basis that gives the unit columns a value, the first column of M with a price below 0
@@ -195,13 +233,7 @@ pub fn feasible(
 {
     match whole_chain(alloc, m, r, bases)? {
         Led::Known(answer) => Ok(answer),
-        Led::To(columns, steps) => {
-            let mut basis = basis_of(alloc, m, r, &columns)?;
-            goes_on(alloc, m, r, &mut basis, steps, bases)
-        }
-        Led::Nowhere => {
-            let mut basis = Basis::start(alloc, m, r)?;
-            goes_on(alloc, m, r, &mut basis, 0, bases)
-        }
+        Led::To(columns, steps) => goes_on_from(alloc, m, r, &columns, steps, bases),
+        Led::Nowhere => goes_from_start(alloc, m, r, bases),
     }
 }

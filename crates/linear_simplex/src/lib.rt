@@ -3,13 +3,10 @@
 
 mod answers;
 mod chain;
-mod crosses;
 mod pricing;
 mod products;
-mod ratio;
 mod verdicts;
 mod whole;
-mod wide;
 
 pub use answers::{Feasible, LinearStop};
 pub use chain::feasible;

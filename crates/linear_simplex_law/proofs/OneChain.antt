@@ -10,7 +10,7 @@ use Rattle.rational.specs.Vectors.{dot, rows_dot, combine, row_at}
 use Rattle.rational.proofs.Field.{rationals}
 use Rattle.rational.proofs.Order.{ordered_rationals, lt_irrefl}
 use Rattle.rational.proofs.Vectors.{length-rows_dot, dot_comm, transpose, entry-rows_dot, entry-unit_vector_same, entry-unit_vector_other}
-use Rattle.exact_matrix.proofs.EliminationVectors.{dot-one_place}
+use Rattle.elimination_law.proofs.Vectors.{dot-one_place}
 use Rattle.linear_basis_law.specs.Problem.{Problem, IsProblem, height, width, column_of}
 use Rattle.linear_basis_law.specs.Basis.{Tableau, IsBasis, IsStanding, IsInverseOf, basic_columns}
 use Rattle.linear_basis_law.specs.Exchange.{IsLeaving, coordinates, exchanged}

@@ -5,7 +5,7 @@ use Rattle.std.specs.Str.{bytes_eq}
 use Rattle.rational.specs.Rational.{ℚ, zero_ℚ, one_ℚ, neg_ℚ, ◌+ℚ◌, ◌-ℚ◌, fits}
 use Rattle.rational.specs.Order.{same_fields}
 use Rattle.frac_core.specs.Parts.{max_part}
-use Rattle.program_law.specs.Tests.{is_zero, is_negative}
+use Rattle.rational.specs.Tests.{is_zero, is_negative}
 use Rattle.program_law.specs.Program.{Program}
 use Rattle.program_law.specs.declared.Row.{Row}
 use Rattle.program_law.specs.declared.Column.{Column}

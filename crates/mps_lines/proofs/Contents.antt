@@ -12,11 +12,12 @@ use Rattle.mps_grammar.specs.Told.{Told}
 use Rattle.mps_grammar.specs.After.{told_within, told_header, told_content}
 use Rattle.mps_grammar.specs.Faults.{first_of, section_tests, header_tests, content_tests}
 use Rattle.mps_grammar.specs.Verdict.{is_end, ends}
-use Rattle.mps_lines.specs.declared.notes.Notes.{Notes}
-use Rattle.mps_lines.specs.declared.stop.LineStop.{LineStop}
-use Rattle.mps_lines.specs.declared.stop.LineStop.TheVariants as stops
-use Rattle.mps_lines.specs.Notes.{told_in}
-use Rattle.mps_lines.specs.Steps.{Holds, TakesIndented, TakesHeader, TakesContent}
+use Rattle.mps_notes.specs.declared.notes.Notes.{Notes}
+use Rattle.mps_sections.specs.declared.stop.LineStop.{LineStop}
+use Rattle.mps_sections.specs.declared.stop.LineStop.TheVariants as stops
+use Rattle.mps_notes.specs.Notes.{told_in}
+use Rattle.mps_notes.specs.Notes.{Holds}
+use Rattle.mps_lines.specs.Steps.{TakesIndented, TakesHeader, TakesContent}
 use Rattle.mps_lines.proofs.SixFields.{section_tests-six, told_within-six}
 
 -- ---- a data line

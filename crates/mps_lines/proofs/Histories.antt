@@ -13,14 +13,16 @@ use Rattle.mps_grammar.specs.Faults.{line_fault}
 use Rattle.mps_grammar.specs.Verdict.{Fault, ends, unless, verdict, verdict_of}
 use Rattle.mps_grammar.specs.Reading.{Spot, told_of, told_verdict, first_shown, rest_of}
 use Rattle.mps_grammar.proofs.After.{told_line}
-use Rattle.mps_lines.specs.declared.lines.Whole.{Whole}
-use Rattle.mps_lines.specs.declared.notes.Notes.{Notes}
-use Rattle.mps_lines.specs.declared.stop.LineStop.{LineStop}
-use Rattle.mps_lines.specs.declared.stop.LineStop.TheVariants as line_stops
-use Rattle.mps_lines.specs.Notes.{told_in, IsSound}
-use Rattle.mps_lines.specs.Reading.{raw_at, IsWhole, read_stop, TellsNotes}
-use Rattle.mps_lines.specs.Steps.{Holds, TakesLine}
-use Rattle.mps_lines.proofs.WholeLines.{raw_length}
+use Rattle.mps_fields.specs.declared.lines.Whole.{Whole}
+use Rattle.mps_notes.specs.declared.notes.Notes.{Notes}
+use Rattle.mps_sections.specs.declared.stop.LineStop.{LineStop}
+use Rattle.mps_sections.specs.declared.stop.LineStop.TheVariants as line_stops
+use Rattle.mps_notes.specs.Notes.{told_in, IsSound}
+use Rattle.mps_fields.specs.Lines.{raw_at, IsWhole}
+use Rattle.mps_lines.specs.Reading.{read_stop, TellsNotes}
+use Rattle.mps_notes.specs.Notes.{Holds}
+use Rattle.mps_lines.specs.Steps.{TakesLine}
+use Rattle.mps_fields.proofs.WholeLines.{raw_length}
 
 -- ---- the lines from a place on
 

@@ -1,11 +1,2 @@
-pub mod Named
-pub mod Names
-pub mod Rows
-pub mod Entries
-pub mod Views
-pub mod Resolved
-pub mod Placed
-pub mod Told
-pub mod Notes
 pub mod Steps
 pub mod Reading

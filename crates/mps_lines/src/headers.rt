@@ -4,12 +4,12 @@ ghost use Rattle.std.specs.Prelude.{◌≡◌};
 ghost use Rattle.std.specs.List.{list_any};
 ghost use Rattle.mps_grammar.specs.Told.{is_rows, is_columns, is_rhs, is_ranges, is_bounds, is_quadratic};
 ghost use Rattle.mps_grammar.specs.Faults.{may_begin, is_sense};
-ghost use Rattle.mps_lines.specs.Notes.{IsSound};
+ghost use Rattle.mps_notes.specs.Notes.{IsSound};
 ghost use Rattle.mps_lines.specs.Steps.{TakesHeader, is_end_section};
 
-use crate::notes::Notes;
-use crate::stop::LineStop;
 use mps_grammar::FaultKind;
+use mps_notes::Notes;
+use mps_sections::LineStop;
 use mps_tokens::{Section, section_of};
 
 fn is_rows(section: Section) -> bool
@@ -42,7 +42,7 @@ fn is_bounds(section: Section) -> bool
     matches!(section, Section::Bounds)
 }
 
-pub(crate) fn is_quadratic(section: Section) -> bool
+fn is_quadratic(section: Section) -> bool
     ensures { result ≡ is_quadratic section }
 {
     matches!(

@@ -1,73 +1,69 @@
-// What a line is by its bytes.
+// The lines that were read so far.
 
-ghost use Rattle.std.specs.Prelude.{◌≡◌, ◌<◌, ◌≤◌, ◌+◌, ℕ, List, length};
-ghost use Rattle.mps_lines.specs.Reading.{IsWhole};
-ghost use Rattle.mps_grammar.specs.Lines.{is_comment, is_indented};
-ghost use Rattle.mps_grammar.specs.Faults.{is_plain, is_plain_byte, is_beyond};
+ghost use Rattle.std.specs.Prelude.{◌≡◌, ◌<◌, ◌+◌, ◌^◌, ℕ, List, [], IfOk};
+ghost use Rattle.mps_tokens.specs.Lines.{without_return};
+ghost use Rattle.mps_grammar.specs.Faults.{is_beyond};
+ghost use Rattle.mps_grammar.specs.Told.{told_by};
+ghost use Rattle.mps_notes.specs.Notes.{told_in, IsSound};
+ghost use Rattle.mps_lines.specs.Steps.{TakesLine};
 
-use mps_tokens::{Line, next_line};
+use crate::taking::take_line;
+use frac_core::Memory;
+use mps_notes::{Draft, Notes};
+use mps_sections::LineStop;
+use std::alloc::Global;
+use std::marker::Model;
 
-/// The last place of a text that a line may have a byte at, counted from 1.
-const REACH: usize = 1_048_576;
+/// The lines that were read so far, as what is kept of them. A loop owns it as one value, and not as its many lists.
+#[derive(Drop)]
+pub(crate) struct Lines {
+    notes: Notes,
+}
 
-/// Whether a line is a comment.
-pub(crate) fn is_comment(line: &[u8]) -> bool
-    ensures { result ≡ is_comment line.now }
-{
-    match line.first() {
-        Some(byte) => *byte == b'*',
-        None => false,
+impl Model for Lines {
+    ghost use Rattle.mps_notes.specs.declared.notes.Notes.{Notes};
+
+    ghost Value = { Notes };
+
+    ghost view = { λ l. l.notes };
+}
+
+impl Lines {
+    /// Before the first line.
+    pub(crate) fn start(alloc: Global) -> Result<Lines, Memory>
+        ensures told { IfOk result (λ lines. told_in lines ≡ told_by []) }
+        ensures sound { IfOk result (λ lines. IsSound lines) }
+    {
+        let notes = Notes::start(alloc)?;
+        Ok(Lines { notes })
     }
-}
 
-/// Whether a blank or a tab stands in front.
-pub(crate) fn is_indented(line: &[u8]) -> bool
-    ensures { result ≡ is_indented line.now }
-{
-    match line.first() {
-        Some(byte) => *byte == b' ' || *byte == b'\t',
-        None => false,
+    /// How many there are.
+    pub(crate) fn count(&self) -> u32
+        ensures { result ≡ self.now.lines }
+    {
+        self.notes.lines
     }
-}
 
-fn is_plain_byte(byte: u8) -> bool
-    ensures { result ≡ is_plain_byte byte }
-{
-    byte == b'\t' || (32 <= byte && byte <= 126)
-}
+    /// Takes the next line, of which `beyond` says whether it has a byte too far into the text. Answers whether it is ENDATA.
+    pub(crate) fn take(
+        &mut self,
+        alloc: Global,
+        line: &[u8],
+        beyond: bool,
+    ) -> Result<bool, LineStop>
+        requires sound { IsSound self.old }
+        requires few { self.old.lines + 1 < 2 ^ 32 }
+        ensures { (at : ℕ) (raw : List ℕ) → line.now ≡ without_return raw → beyond ≡ is_beyond at raw → TakesLine self.old at raw self.new result }
+    {
+        take_line(alloc, &mut self.notes, line, beyond)
+    }
 
-/// Whether all bytes are tabs or 32 to 126.
-pub(crate) fn is_plain(line: &[u8]) -> bool
-    ensures { result ≡ is_plain line.now }
-{
-    line.iter().all(|byte| is_plain_byte(*byte))
-}
-
-/// A line with what ends it left out, and where it ends with its carriage return.
-#[derive(Clone, Copy)]
-pub(crate) struct Whole {
-    pub line: Line,
-    pub end: usize,
-}
-
-/// The line at a place of a text.
-pub(crate) fn whole_line(text: &[u8], from: usize) -> Whole
-    requires { from < length text.now }
-    ensures { IsWhole text.now from result }
-{
-    let line = next_line(text, from);
-    let end = if text[line.next - 1] == b'\n' {
-        line.next - 1
-    } else {
-        line.next
-    };
-    Whole { line, end }
-}
-
-/// Whether a line has a byte past the last place that it may have.
-pub(crate) fn is_beyond(from: usize, end: usize) -> bool
-    requires { from ≤ end }
-    ensures { (raw : List ℕ) → end ≡ from + length raw → result ≡ is_beyond from raw }
-{
-    from < end && end > REACH
+    /// What they tell.
+    pub(crate) fn draft(self) -> Draft
+        requires { IsSound self }
+        ensures { result ≡ told_in self }
+    {
+        Draft::of(self.notes)
+    }
 }

@@ -5,12 +5,12 @@ ghost use Rattle.mps_lines.specs.Reading.{read_stop, TellsNotes, Tells, IsPlaceI
 ghost use Rattle.mps_grammar.specs.Lines.{is_passed};
 ghost use Rattle.mps_grammar.specs.Reading.{told_of, rest_of};
 
-use crate::draft::Draft;
-use crate::lines::{is_beyond, is_comment, whole_line};
-use crate::notes::Notes;
-use crate::stop::{LineStop, Place, ReadStop};
-use crate::taking::take_line;
+use crate::lines::Lines;
+use crate::stop::{Place, ReadStop};
+use mps_fields::{is_beyond, is_comment, whole_line};
 use mps_grammar::FaultKind;
+use mps_notes::Draft;
+use mps_sections::LineStop;
 use mps_tokens::Parts;
 use std::alloc::Global;
 
@@ -24,21 +24,21 @@ fn stop_at(line: u32, stop: LineStop) -> ReadStop
     }
 }
 
-/// What the lines up to ENDATA tell, and the place behind them.
-fn notes_of(alloc: Global, text: &[u8]) -> Result<(Notes, Place), ReadStop>
+/// The lines up to ENDATA, and the place behind them.
+fn lines_of(alloc: Global, text: &[u8]) -> Result<(Lines, Place), ReadStop>
     requires { length text.now ≤ 2 ^ 30 }
     ensures tells { TellsNotes (told_of text.now) result }
     ensures place { IfOk result (λ n. IsPlaceIn text.now n.1) }
 {
-    let Ok(mut notes) = Notes::start(alloc) else {
+    let Ok(mut lines) = Lines::start(alloc) else {
         return Err(ReadStop::Memory);
     };
     let mut at = 0;
     while at < text.len() {
         let whole = whole_line(text, at);
         let bytes = &text[whole.line.begin..whole.line.end];
-        let number = notes.lines + 1;
-        let ended = match take_line(alloc, &mut notes, bytes, is_beyond(at, whole.end)) {
+        let number = lines.count() + 1;
+        let ended = match lines.take(alloc, bytes, is_beyond(at, whole.end)) {
             Ok(ended) => ended,
             Err(stop) => return Err(stop_at(number, stop)),
         };
@@ -46,13 +46,13 @@ fn notes_of(alloc: Global, text: &[u8]) -> Result<(Notes, Place), ReadStop>
         if ended {
             let place = Place {
                 byte: at,
-                line: notes.lines + 1,
+                line: lines.count() + 1,
             };
-            return Ok((notes, place));
+            return Ok((lines, place));
         }
     }
     Err(ReadStop::Fault {
-        line: notes.lines + 1,
+        line: lines.count() + 1,
         kind: FaultKind::NoEnd,
     })
 }
@@ -66,8 +66,8 @@ pub fn told(alloc: Global, text: &[u8]) -> Result<(Draft, Place), ReadStop>
     ensures tells { Tells (told_of text.now) result }
     ensures place { IfOk result (λ t. IsPlaceIn text.now t.1) }
 {
-    let (notes, place) = notes_of(alloc, text)?;
-    Ok((Draft::of(notes), place))
+    let (lines, place) = lines_of(alloc, text)?;
+    Ok((lines.draft(), place))
 }
 
 /// Whether a line is blank or a comment.

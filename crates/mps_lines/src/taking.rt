@@ -5,69 +5,17 @@ ghost use Rattle.std.specs.List.{list_all};
 ghost use Rattle.mps_tokens.specs.Lines.{without_return};
 ghost use Rattle.mps_tokens.specs.FieldsOf.{fields_of};
 ghost use Rattle.mps_grammar.specs.Faults.{is_beyond};
-ghost use Rattle.mps_lines.specs.Names.{is_word};
-ghost use Rattle.mps_lines.specs.Notes.{IsSound};
-ghost use Rattle.mps_lines.specs.Steps.{sides_section, TakesData, TakesIndented, TakesContent, TakesShown, TakesLine};
+ghost use Rattle.mps_fields.specs.Words.{is_word};
+ghost use Rattle.mps_notes.specs.Notes.{IsSound};
+ghost use Rattle.mps_lines.specs.Steps.{TakesIndented, TakesContent, TakesShown, TakesLine};
 
-use crate::bounds::take_bounds;
-use crate::columns::take_columns;
 use crate::headers::take_header;
-use crate::lines::{is_comment, is_indented, is_plain};
-use crate::notes::Notes;
-use crate::quadratic::take_pairs;
-use crate::row_lines::take_rows;
-use crate::sides::take_sides;
-use crate::stop::LineStop;
+use mps_fields::{is_comment, is_indented, is_plain};
 use mps_grammar::FaultKind;
-use mps_tokens::{Parts, Section};
+use mps_notes::Notes;
+use mps_sections::{LineStop, take_data};
+use mps_tokens::Parts;
 use std::alloc::Global;
-
-/// A data line of RHS or of RANGES.
-fn take_sides_of(
-    alloc: Global,
-    notes: &mut Notes,
-    ranges: bool,
-    fields: &Parts<'_>,
-) -> Result<(), LineStop>
-    requires sound { IsSound notes.old }
-    requires few { notes.old.lines + 1 < 2 ^ 32 }
-    ensures { TakesData notes.old (sides_section ranges) fields.now notes.new result }
-{
-    let line = notes.lines + 1;
-    if ranges {
-        take_sides(alloc, &notes.rows, &mut notes.ranges, line, fields)
-    } else {
-        take_sides(alloc, &notes.rows, &mut notes.sides, line, fields)
-    }
-}
-
-/// A data line of a section.
-fn take_data(
-    alloc: Global,
-    notes: &mut Notes,
-    section: Section,
-    fields: &Parts<'_>,
-) -> Result<(), LineStop>
-    requires sound { IsSound notes.old }
-    requires few { notes.old.lines + 1 < 2 ^ 32 }
-    requires some { 0 < length fields.now }
-    requires words { list_all is_word fields.now ≡ true }
-    ensures { TakesData notes.old section fields.now notes.new result }
-{
-    match section {
-        Section::Rows => take_rows(alloc, notes, fields),
-        Section::Columns => take_columns(alloc, notes, fields),
-        Section::Rhs => take_sides_of(alloc, notes, false, fields),
-        Section::Ranges => take_sides_of(alloc, notes, true, fields),
-        Section::Bounds => take_bounds(alloc, notes, fields),
-        Section::QuadObj | Section::QMatrix | Section::DMatrix => {
-            take_pairs(notes, section, fields)
-        }
-        Section::Name | Section::EndData | Section::ObjSense => {
-            Err(LineStop::Fault(FaultKind::SectionOrder))
-        }
-    }
-}
 
 /// A data line, which stands in the section that was begun last.
 fn take_indented(alloc: Global, notes: &mut Notes, fields: &Parts<'_>) -> Result<(), LineStop>

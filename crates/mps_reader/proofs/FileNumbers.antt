@@ -8,7 +8,7 @@ use Rattle.std.proofs.lemmas.Bool.{or_parts}
 use Rattle.rational.specs.Rational.{ℚ, zero_ℚ, fraction, fits, Fits}
 use Rattle.rational.proofs.Wholes.{num-whole, den-whole}
 use Rattle.frac_core.specs.Parts.{max_part}
-use Rattle.frac_core.specs.Signed.{signed, abs-signed}
+use Rattle.word_arithmetic.specs.Signed.{signed, abs-signed}
 use Rattle.mps_tokens.specs.declared.fault.NumberFault.{NumberFault}
 use Rattle.mps_tokens.specs.declared.fault.NumberFault.TheVariants.{NotNumber, Past}
 use Rattle.mps_tokens.specs.Spelling.{is_negative, without_sign, is_slash, mantissa_of, exponent_of, is_decimal, is_fraction}

@@ -26,10 +26,12 @@ use Rattle.mps_grammar.specs.Faults.{first_of, is_long, named_row_tests, marker_
 use Rattle.mps_grammar.specs.After.{told_more, told_within, told_header, told_shown, counted, told_after}
 use Rattle.mps_grammar.specs.Verdict.{Fault, ends, unless, verdict}
 use Rattle.mps_grammar.proofs.After.{told_line}
-use Rattle.mps_lines.specs.Names.{Differ, AreNames, is_word}
-use Rattle.mps_lines.proofs.NameLemmas.{absent_push, ne_sym, Differ-push}
-use Rattle.mps_lines.proofs.RowLemmas.{names_push, all_push}
-use Rattle.mps_lines.proofs.Words.{word_name, entries_word, words_of, head_short}
+use Rattle.named_things.specs.Names.{Differ}
+use Rattle.mps_notes.specs.Names.{AreNames}
+use Rattle.mps_fields.specs.Words.{is_word}
+use Rattle.named_things.proofs.NameLemmas.{absent_push, ne_sym, Differ-push}
+use Rattle.mps_notes.proofs.RowLemmas.{names_push, all_push}
+use Rattle.mps_fields.proofs.Words.{word_name, entries_word, words_of, head_short}
 use Rattle.mps_reader.proofs.FileNumbers.{spelling_small}
 use Rattle.mps_reader.proofs.SoundLines.{none_holds, not_parts, shown-none, row_cases, row_same}
 

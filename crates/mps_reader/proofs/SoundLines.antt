@@ -25,9 +25,9 @@ use Rattle.mps_grammar.specs.After.{told_more, told_within, told_header, told_sh
 use Rattle.mps_grammar.specs.Verdict.{Fault, is_end, ends, unless, verdict, verdict_of}
 use Rattle.mps_grammar.specs.Reading.{Spot, behind, told_verdict, told_of}
 use Rattle.mps_grammar.proofs.After.{told_line}
-use Rattle.mps_reader.specs.Sound.{AreToldOnce, HaveOneQuadratic, IsSound}
-use Rattle.mps_lines.proofs.NameLemmas.{eq_from, ne_sym, ne_eq}
-use Rattle.mps_reader.proofs.Additions.{filter-push}
+use Rattle.mps_assembly.specs.Sound.{AreToldOnce, HaveOneQuadratic, IsSound}
+use Rattle.named_things.proofs.NameLemmas.{eq_from, ne_sym, ne_eq}
+use Rattle.mps_assembly.proofs.Additions.{filter-push}
 
 -- ---- tests that fail
 

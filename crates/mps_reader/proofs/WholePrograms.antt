@@ -10,20 +10,21 @@ use Rattle.std.proofs.lemmas.List.Elements.{All-from_recursion}
 use Rattle.rational.specs.Rational.{ℚ, zero_ℚ, Fits}
 use Rattle.frac_core.specs.Parts.{max_part}
 use Rattle.program_law.specs.Places.{place_of}
-use Rattle.program_law.specs.Vectors.{at, row_at}
+use Rattle.rational.specs.Sums.{entry}
+use Rattle.rational.specs.Vectors.{row_at}
 use Rattle.program_law.specs.Program.{Program, IsProgram, IsName, IsRow, row_names, column_names, sides, marker}
 use Rattle.mps_tokens.specs.declared.words.RowKind.{RowKind}
 use Rattle.mps_grammar.specs.Told.{Told, Telling, names_of, binds, program_rows, objective_in, used_names, is_at, told_by}
 use Rattle.mps_grammar.specs.Programs.{value_at, value_told, sides_of, row_of, column_of, pair_value, numbers_of, objective_of, program_of, first_line, is_lopsided, fault_at, range_fault, pair_fault, end_fault}
 use Rattle.mps_grammar.specs.declared.kinds.FaultKind.TheVariants as kinds
 use Rattle.mps_grammar.specs.Reading.{Spot, behind, read_of, told_of, told_verdict}
-use Rattle.mps_lines.specs.Names.{Differ}
-use Rattle.mps_lines.proofs.NameLemmas.{ne_eq, absent_parts}
-use Rattle.mps_reader.specs.Assembled.{last_value}
-use Rattle.mps_reader.specs.Sound.{IsSound}
-use Rattle.mps_reader.proofs.GoodSides.{IsRow-plain, IsRow-ranged}
-use Rattle.mps_reader.proofs.Pairs.{or_other-none, last-pair, IsLevel}
-use Rattle.mps_reader.proofs.UsedNames.{used-differ}
+use Rattle.named_things.specs.Names.{Differ}
+use Rattle.named_things.proofs.NameLemmas.{ne_eq, absent_parts}
+use Rattle.mps_assembly.specs.Assembled.{last_value}
+use Rattle.mps_assembly.specs.Sound.{IsSound}
+use Rattle.mps_assembly.proofs.GoodSides.{IsRow-plain, IsRow-ranged}
+use Rattle.mps_assembly.proofs.Pairs.{or_other-none, last-pair, IsLevel}
+use Rattle.mps_assembly.proofs.UsedNames.{used-differ}
 use Rattle.mps_reader.proofs.SoundLines.{IsWhole, told-whole}
 use Rattle.mps_reader.proofs.NamedLines.{HasNames, lines-named}
 use Rattle.mps_reader.proofs.AppendedReading.{stands}
@@ -101,12 +102,12 @@ all_wide f n [] h = tt
 all_wide f n (x ∷ xs) h = (h x, all_wide f n xs h)
 
 -- an entry of a row of numbers
-at_map : (f : List ℕ → ℚ) (names : List (List ℕ)) (k : ℕ) → k < length names → at (map f names) k ≡ f (get_or names k [])
+at_map : (f : List ℕ → ℚ) (names : List (List ℕ)) (k : ℕ) → k < length names → entry (map f names) k ≡ f (get_or names k [])
 at_map f [] k lt = absurd (omega (arith, lt))
 at_map f (n ∷ ns) zero lt = refl
 at_map f (n ∷ ns) (suc k) lt = at_map f ns k (omega (arith, lt))
 
-at_past : (f : List ℕ → ℚ) (names : List (List ℕ)) (k : ℕ) → length names ≤ k → at (map f names) k ≡ zero_ℚ
+at_past : (f : List ℕ → ℚ) (names : List (List ℕ)) (k : ℕ) → length names ≤ k → entry (map f names) k ≡ zero_ℚ
 at_past f [] k le = refl
 at_past f (n ∷ ns) zero le = absurd (omega (arith, le))
 at_past f (n ∷ ns) (suc k) le = at_past f ns k (omega (arith, le))
@@ -125,19 +126,19 @@ module _ (names : List (List ℕ)) (f : List ℕ → List ℕ → ℚ) (same : (
   abbrev table : List (List ℚ)
   table = map (λ one. map (λ other. f one other) names) names
 
-  table_at : (j k : ℕ) → j < length names → k < length names → at (row_at table j) k ≡ f (get_or names j []) (get_or names k [])
-  table_at j k lt within = ap (λ (row : List ℚ). at row k) (row_map (λ one. map (λ other. f one other) names) names j lt) ∙ at_map (λ other. f (get_or names j []) other) names k within
+  table_at : (j k : ℕ) → j < length names → k < length names → entry (row_at table j) k ≡ f (get_or names j []) (get_or names k [])
+  table_at j k lt within = ap (λ (row : List ℚ). entry row k) (row_map (λ one. map (λ other. f one other) names) names j lt) ∙ at_map (λ other. f (get_or names j []) other) names k within
 
-  table_beside : (j k : ℕ) → length names ≤ k → at (row_at table j) k ≡ zero_ℚ
+  table_beside : (j k : ℕ) → length names ≤ k → entry (row_at table j) k ≡ zero_ℚ
   table_beside j k le = elim (cases_lt j (length names)) [
-    | inl lt ↦ ap (λ (row : List ℚ). at row k) (row_map (λ one. map (λ other. f one other) names) names j lt) ∙ at_past (λ other. f (get_or names j []) other) names k le
-    | inr past ↦ ap (λ (row : List ℚ). at row k) (row_past (λ one. map (λ other. f one other) names) names j past)
+    | inl lt ↦ ap (λ (row : List ℚ). entry row k) (row_map (λ one. map (λ other. f one other) names) names j lt) ∙ at_past (λ other. f (get_or names j []) other) names k le
+    | inr past ↦ ap (λ (row : List ℚ). entry row k) (row_past (λ one. map (λ other. f one other) names) names j past)
   ]
 
-  table_below : (j k : ℕ) → length names ≤ j → at (row_at table j) k ≡ zero_ℚ
-  table_below j k le = ap (λ (row : List ℚ). at row k) (row_past (λ one. map (λ other. f one other) names) names j le)
+  table_below : (j k : ℕ) → length names ≤ j → entry (row_at table j) k ≡ zero_ℚ
+  table_below j k le = ap (λ (row : List ℚ). entry row k) (row_past (λ one. map (λ other. f one other) names) names j le)
 
-  table_symmetric : (j k : ℕ) → at (row_at table j) k ≡ at (row_at table k) j
+  table_symmetric : (j k : ℕ) → entry (row_at table j) k ≡ entry (row_at table k) j
   table_symmetric j k = elim (cases_lt j (length names)) [
     | inl lt ↦ elim (cases_lt k (length names)) [
       | inl within ↦ table_at j k lt within ∙ same (get_or names j []) (get_or names k []) ∙ sym (table_at k j within lt)

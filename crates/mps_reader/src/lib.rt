@@ -1,16 +1,8 @@
 //! Reads the program that a program file stands for.
 #![tactic(auto)]
 
-mod building;
-mod columns;
-mod faults;
-mod finishing;
 mod laws;
-mod naming;
-mod numbers;
 mod reading;
-mod rows;
-mod sides;
 
 pub use laws::{
     appended_text_is_found, text_behind_a_program_is_not_read, what_is_read_is_a_program,

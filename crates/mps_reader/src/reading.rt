@@ -1,14 +1,29 @@
 // Reading a program from a text.
 
-ghost use Rattle.std.specs.Prelude.{◌≤◌, ◌^◌, length, IfOk};
-ghost use Rattle.mps_grammar.specs.Reading.{read_of};
-ghost use Rattle.mps_lines.specs.Reading.{IsPlaceIn};
+ghost use Rattle.std.specs.Prelude.{◌≡◌, ◌≤◌, ◌^◌, true, length, IfOk};
+ghost use Rattle.std.specs.List.{list_any};
+ghost use Rattle.mps_grammar.specs.Told.{is_columns};
+ghost use Rattle.mps_grammar.specs.Programs.{end_fault};
+ghost use Rattle.mps_grammar.specs.Reading.{finished, read_of};
+ghost use Rattle.mps_lines.specs.Reading.{IsPlaceIn, spot_of};
+ghost use Rattle.mps_assembly.specs.Sound.{IsSound};
 ghost use Rattle.mps_reader.specs.Reading.{Reads};
 
-use crate::finishing::finish;
-use mps_lines::{Place, ReadStop, told};
-use program_model::Program;
+use mps_assembly::finish;
+use mps_lines::{Draft, Place, ReadStop, told};
+use program_data::Program;
 use std::alloc::Global;
+
+// The program of what is told, and the place behind its lines.
+fn finished(alloc: Global, draft: &Draft, place: Place) -> Result<(Program, Place), ReadStop>
+    requires sound { IsSound draft.now }
+    requires columns { list_any is_columns draft.now.sections ≡ true }
+    ensures reads { Reads (finished draft.now (spot_of place) (end_fault draft.now)) result }
+    ensures place { IfOk result (λ r. r.1 ≡ place) }
+{
+    let program = finish(alloc, draft)?;
+    Ok((program, place))
+}
 
 /// The program that the lines of a text up to ENDATA stand for, and the place behind them.
 ///
@@ -20,8 +35,5 @@ pub fn read(alloc: Global, text: &[u8]) -> Result<(Program, Place), ReadStop>
     ensures place { IfOk result (λ r. IsPlaceIn text.now r.1) }
 {
     let (draft, place) = told(alloc, text)?;
-    match finish(alloc, &draft) {
-        Ok(program) => Ok((program, place)),
-        Err(stop) => Err(stop),
-    }
+    finished(alloc, &draft, place)
 }

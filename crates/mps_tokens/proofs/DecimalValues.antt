@@ -7,7 +7,7 @@ use Rattle.std.proofs.lemmas.Bool.Decides.{nat_tests}
 use Rattle.std.proofs.Math.Nat.{mul_assoc}
 use Rattle.rational.specs.Rational.{zero_ℚ, fraction}
 use Rattle.frac_core.specs.Parts.{max_part}
-use Rattle.frac_core.specs.Signed.{signed}
+use Rattle.word_arithmetic.specs.Signed.{signed}
 use Rattle.mps_tokens.specs.declared.natural.Natural.{Natural}
 use Rattle.mps_tokens.specs.declared.natural.Natural.TheVariants.{Fits}
 use Rattle.mps_tokens.specs.declared.natural.Natural.TheVariants as natural

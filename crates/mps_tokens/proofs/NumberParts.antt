@@ -11,7 +11,7 @@ use Rattle.std.proofs.lemmas.List.Folds.{list_any_none, list_any_at, list_all-ap
 use Rattle.std.proofs.lemmas.List.Sums.{fails_before_first, passes_at_first}
 use Rattle.rational.specs.Rational.{ℚ, fraction}
 use Rattle.frac_core.specs.Parts.{max_part}
-use Rattle.frac_core.specs.Signed.{signed}
+use Rattle.word_arithmetic.specs.Signed.{signed}
 use Rattle.mps_tokens.specs.declared.digits.Digits.{Digits}
 use Rattle.mps_tokens.specs.declared.natural.Natural.{Natural}
 use Rattle.mps_tokens.specs.declared.fault.NumberFault.{NumberFault}

@@ -17,7 +17,7 @@ use Rattle.rational.proofs.Pairs.{quotient_is_cross}
 use Rattle.rational.proofs.Reciprocals.{whole_lowest, fraction_one, fraction_divided}
 use Rattle.frac_core.specs.declared.fractions.PartsFault.{PartsFault}
 use Rattle.frac_core.specs.Parts.{max_part}
-use Rattle.frac_core.specs.Signed.{signed, abs-signed}
+use Rattle.word_arithmetic.specs.Signed.{signed, abs-signed}
 use Rattle.frac_core.specs.Quotient.{quotient_of, signs_differ, parts_of, fitting}
 use Rattle.mps_tokens.specs.declared.fault.NumberFault.TheVariants.{Past}
 use Rattle.mps_tokens.specs.Numbers.{fitted}

@@ -1,5 +1,5 @@
 -- Tables of words.
-use Rattle.std.specs.Prelude.{ℕ, ◌&&◌, not, Bool, true, List, [], ◌∷◌, take, map, Option, Some, None, if◌then◌else◌, codes}
+use Rattle.std.specs.Prelude.{ℕ, ◌+◌, ◌==◌, ◌&&◌, not, Bool, true, List, [], ◌∷◌, take, map, Option, Some, None, if◌then◌else◌, codes}
 use Rattle.std.specs.Str.{bytes_eq}
 use Rattle.mps_tokens.specs.declared.case.Case.{Case}
 
@@ -14,6 +14,11 @@ entries_of table = map entry_of table
 abbrev pub named : {E : Type 0} → List (List ℕ × E) → List ℕ → Option E
 named [] word = None
 named (e ∷ es) word = if bytes_eq e.0 word then Some e.1 else named es word
+
+-- the same by the number of an entry, where the first has this one and each other has one more than the entry before it
+abbrev pub numbered : {E : Type 0} → ℕ → List (List ℕ × E) → ℕ → Option E
+numbered first [] number = None
+numbered first (e ∷ es) number = if number == first then Some e.1 else numbered (first + 1) es number
 
 -- no entry has this word
 abbrev pub is_absent : List (List ℕ × ℕ) → List ℕ → Bool

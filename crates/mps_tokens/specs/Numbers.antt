@@ -4,7 +4,7 @@ use Rattle.std.specs.List.{list_any, before_first, after_first}
 use Rattle.std.specs.Str.Parse.{digits_value}
 use Rattle.rational.specs.Rational.{ℚ, zero_ℚ, fraction, fits}
 use Rattle.frac_core.specs.Parts.{max_part}
-use Rattle.frac_core.specs.Signed.{signed}
+use Rattle.word_arithmetic.specs.Signed.{signed}
 use Rattle.mps_tokens.specs.declared.fault.NumberFault.{NumberFault}
 use Rattle.mps_tokens.specs.declared.fault.NumberFault.TheVariants.{NotNumber, Past}
 use Rattle.mps_tokens.specs.Spelling.{is_negative, without_sign, is_slash, mantissa_of, exponent_of, without_point, places_of, is_decimal, is_fraction}

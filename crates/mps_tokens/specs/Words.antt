@@ -1,5 +1,5 @@
 -- The words of the tables by name.
-use Rattle.std.specs.Prelude.{ℕ, ◌==◌, List, [], ◌∷◌, Option, Some, None, codes, if◌then◌else◌}
+use Rattle.std.specs.Prelude.{ℕ, List, [], ◌∷◌, codes}
 use Rattle.mps_tokens.specs.declared.words.Section.{Section}
 use Rattle.mps_tokens.specs.declared.words.Section.TheVariants as sections
 use Rattle.mps_tokens.specs.declared.words.RowKind.{RowKind}
@@ -20,6 +20,3 @@ bound_kind_names = (codes "UP", bound_kinds.Upper) ∷ (codes "LO", bound_kinds.
 
 abbrev pub certificate_word_names : List (List ℕ × CertificateWord)
 certificate_word_names = (codes "OPTIMAL", certificate_words.Optimal) ∷ (codes "INFEASIBLE", certificate_words.Infeasible) ∷ (codes "UNBOUNDED", certificate_words.Unbounded) ∷ (codes "NOTCONVEX", certificate_words.NotConvex) ∷ (codes "VALUE", certificate_words.Value) ∷ (codes "POINT", certificate_words.Point) ∷ (codes "RAY", certificate_words.Ray) ∷ (codes "VECTOR", certificate_words.Vector) ∷ (codes "SQUARE", certificate_words.Square) ∷ (codes "COEF", certificate_words.Coef) ∷ (codes "BRANCH", certificate_words.Branch) ∷ (codes "BOUND", certificate_words.Bound) ∷ (codes "FARKAS", certificate_words.Farkas) ∷ (codes "CROSS", certificate_words.Cross) ∷ (codes "W", certificate_words.W) ∷ (codes "Y", certificate_words.Y) ∷ (codes "END", certificate_words.End) ∷ []
-
-abbrev pub certificate_word_numbered : ℕ → Option CertificateWord
-certificate_word_numbered n = if n == 1 then Some certificate_words.Optimal else (if n == 2 then Some certificate_words.Infeasible else (if n == 3 then Some certificate_words.Unbounded else (if n == 4 then Some certificate_words.NotConvex else (if n == 5 then Some certificate_words.Value else (if n == 6 then Some certificate_words.Point else (if n == 7 then Some certificate_words.Ray else (if n == 8 then Some certificate_words.Vector else (if n == 9 then Some certificate_words.Square else (if n == 10 then Some certificate_words.Coef else (if n == 11 then Some certificate_words.Branch else (if n == 12 then Some certificate_words.Bound else (if n == 13 then Some certificate_words.Farkas else (if n == 14 then Some certificate_words.Cross else (if n == 15 then Some certificate_words.W else (if n == 16 then Some certificate_words.Y else (if n == 17 then Some certificate_words.End else None))))))))))))))))

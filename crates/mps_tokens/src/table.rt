@@ -41,17 +41,8 @@ pub fn sections() -> [Case; 11]
     ensures distinct { IsTrue (has_distinct_words (entries_of result)) }
 {
     cases! {
-        1 => b"NAME",
-        2 => b"ROWS",
-        3 => b"COLUMNS",
-        4 => b"RHS",
-        5 => b"RANGES",
-        6 => b"BOUNDS",
-        7 => b"QUADOBJ",
-        8 => b"QMATRIX",
-        9 => b"DMATRIX",
-        10 => b"ENDATA",
-        11 => b"OBJSENSE",
+        1 => b"NAME", 2 => b"ROWS", 3 => b"COLUMNS", 4 => b"RHS", 5 => b"RANGES", 6 => b"BOUNDS",
+        7 => b"QUADOBJ", 8 => b"QMATRIX", 9 => b"DMATRIX", 10 => b"ENDATA", 11 => b"OBJSENSE",
     }
 }
 
@@ -61,15 +52,8 @@ pub fn bound_kinds() -> [Case; 9]
     ensures distinct { IsTrue (has_distinct_words (entries_of result)) }
 {
     cases! {
-        1 => b"UP",
-        2 => b"LO",
-        3 => b"FX",
-        4 => b"FR",
-        5 => b"MI",
-        6 => b"PL",
-        7 => b"BV",
-        8 => b"LI",
-        9 => b"UI",
+        1 => b"UP", 2 => b"LO", 3 => b"FX", 4 => b"FR", 5 => b"MI", 6 => b"PL", 7 => b"BV",
+        8 => b"LI", 9 => b"UI",
     }
 }
 
@@ -79,23 +63,9 @@ pub fn certificate_words() -> [Case; 17]
     ensures distinct { IsTrue (has_distinct_words (entries_of result)) }
 {
     cases! {
-        1 => b"OPTIMAL",
-        2 => b"INFEASIBLE",
-        3 => b"UNBOUNDED",
-        4 => b"NOTCONVEX",
-        5 => b"VALUE",
-        6 => b"POINT",
-        7 => b"RAY",
-        8 => b"VECTOR",
-        9 => b"SQUARE",
-        10 => b"COEF",
-        11 => b"BRANCH",
-        12 => b"BOUND",
-        13 => b"FARKAS",
-        14 => b"CROSS",
-        15 => b"W",
-        16 => b"Y",
-        17 => b"END",
+        1 => b"OPTIMAL", 2 => b"INFEASIBLE", 3 => b"UNBOUNDED", 4 => b"NOTCONVEX", 5 => b"VALUE",
+        6 => b"POINT", 7 => b"RAY", 8 => b"VECTOR", 9 => b"SQUARE", 10 => b"COEF", 11 => b"BRANCH",
+        12 => b"BOUND", 13 => b"FARKAS", 14 => b"CROSS", 15 => b"W", 16 => b"Y", 17 => b"END",
     }
 }
 

@@ -3,7 +3,7 @@
 ghost use Rattle.std.specs.Prelude.{◌≡◌, ◌≢◌, ◌==◌, if◌then◌else◌, ◌+◌, ◌*◌, ◌^◌, ◌<◌, ◌≤◌, ℕ, Ok, pos};
 ghost use Rattle.rational.specs.Rational.{fraction, ◌/ℚ◌};
 ghost use Rattle.frac_core.specs.Parts.{max_part};
-ghost use Rattle.frac_core.specs.Signed.{signed};
+ghost use Rattle.word_arithmetic.specs.Signed.{signed};
 ghost use Rattle.mps_tokens.specs.Numbers.{fitted, decimal_value, fraction_value, up_of, down_of};
 ghost use Rattle.mps_tokens.specs.Running.{IsCapped, AreDigitsOf};
 

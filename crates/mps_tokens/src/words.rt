@@ -1,8 +1,8 @@
 //! The words of the tables by name.
 
 ghost use Rattle.std.specs.Prelude.{◌≡◌};
-ghost use Rattle.mps_tokens.specs.Cases.{named};
-ghost use Rattle.mps_tokens.specs.Words.{section_names, row_kind_names, bound_kind_names, certificate_word_names, certificate_word_numbered};
+ghost use Rattle.mps_tokens.specs.Cases.{named, numbered};
+ghost use Rattle.mps_tokens.specs.Words.{section_names, row_kind_names, bound_kind_names, certificate_word_names};
 
 use crate::table::{bound_kinds, certificate_words, find, row_kinds, sections};
 
@@ -108,11 +108,11 @@ pub enum CertificateWord {
     End,
 }
 
-/// The section with this word, or None where there is none.
-pub fn section_of(word: &[u8]) -> Option<Section>
-    ensures { result ≡ named section_names word.now }
+/// The section with this number.
+fn section_numbered(number: u8) -> Option<Section>
+    ensures { result ≡ numbered 1 section_names number }
 {
-    match find(&sections(), word)? {
+    match number {
         1 => Some(Section::Name),
         2 => Some(Section::Rows),
         3 => Some(Section::Columns),
@@ -128,11 +128,21 @@ pub fn section_of(word: &[u8]) -> Option<Section>
     }
 }
 
-/// The kind of row with this word, or None where there is none.
-pub fn row_kind_of(word: &[u8]) -> Option<RowKind>
-    ensures { result ≡ named row_kind_names word.now }
+/// The section with this word, or None where there is none.
+pub fn section_of(word: &[u8]) -> Option<Section>
+    ensures { result ≡ named section_names word.now }
 {
-    match find(&row_kinds(), word)? {
+    match find(&sections(), word) {
+        Some(number) => section_numbered(number),
+        None => None,
+    }
+}
+
+/// The kind of row with this number.
+fn row_kind_numbered(number: u8) -> Option<RowKind>
+    ensures { result ≡ numbered 1 row_kind_names number }
+{
+    match number {
         1 => Some(RowKind::Objective),
         2 => Some(RowKind::AtMost),
         3 => Some(RowKind::AtLeast),
@@ -141,11 +151,21 @@ pub fn row_kind_of(word: &[u8]) -> Option<RowKind>
     }
 }
 
-/// The kind of bound with this word, or None where there is none.
-pub fn bound_kind_of(word: &[u8]) -> Option<BoundKind>
-    ensures { result ≡ named bound_kind_names word.now }
+/// The kind of row with this word, or None where there is none.
+pub fn row_kind_of(word: &[u8]) -> Option<RowKind>
+    ensures { result ≡ named row_kind_names word.now }
 {
-    match find(&bound_kinds(), word)? {
+    match find(&row_kinds(), word) {
+        Some(number) => row_kind_numbered(number),
+        None => None,
+    }
+}
+
+/// The kind of bound with this number.
+fn bound_kind_numbered(number: u8) -> Option<BoundKind>
+    ensures { result ≡ numbered 1 bound_kind_names number }
+{
+    match number {
         1 => Some(BoundKind::Upper),
         2 => Some(BoundKind::Lower),
         3 => Some(BoundKind::Fixed),
@@ -159,9 +179,19 @@ pub fn bound_kind_of(word: &[u8]) -> Option<BoundKind>
     }
 }
 
+/// The kind of bound with this word, or None where there is none.
+pub fn bound_kind_of(word: &[u8]) -> Option<BoundKind>
+    ensures { result ≡ named bound_kind_names word.now }
+{
+    match find(&bound_kinds(), word) {
+        Some(number) => bound_kind_numbered(number),
+        None => None,
+    }
+}
+
 /// The word of a certificate with this number.
-fn certificate_word(number: u8) -> Option<CertificateWord>
-    ensures { result ≡ certificate_word_numbered number }
+fn certificate_word_numbered(number: u8) -> Option<CertificateWord>
+    ensures { result ≡ numbered 1 certificate_word_names number }
 {
     match number {
         1 => Some(CertificateWord::Optimal),
@@ -190,7 +220,7 @@ pub fn certificate_word_of(word: &[u8]) -> Option<CertificateWord>
     ensures { result ≡ named certificate_word_names word.now }
 {
     match find(&certificate_words(), word) {
-        Some(number) => certificate_word(number),
+        Some(number) => certificate_word_numbered(number),
         None => None,
     }
 }

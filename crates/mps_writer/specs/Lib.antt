@@ -1,5 +1,1 @@
-pub mod Lines
 pub mod Fields
-pub mod Canonical
-pub mod Small
-pub mod Back

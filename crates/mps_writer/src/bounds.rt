@@ -1,15 +1,14 @@
 // BOUNDS.
 
 ghost use Rattle.std.specs.Prelude.{◌≡◌, ◌++◌, ◌∷◌, [], ◌||◌, codes, true, OnOk, IfOk};
-ghost use Rattle.mps_writer.specs.Lines.{lines_text, behind, has_lines, data_line};
-ghost use Rattle.mps_writer.specs.Canonical.{bound_line, low_lines, both_lines, bound_lines, bounds_lines};
+ghost use Rattle.mps_writer_law.specs.Lines.{lines_text, behind, has_lines, data_line};
+ghost use Rattle.mps_writer_law.specs.Canonical.{bound_line, low_lines, both_lines, bound_lines, bounds_lines};
 
 use crate::lines::{Field, push_in_section};
 use crate::parts::column_name;
-use check_steps::{is_negative, is_zero, same};
 use frac_core::{Frac, Memory};
+use program_data::Program;
 use program_law::Row;
-use program_model::Program;
 
 /// Puts the line of a bound last that has no number.
 fn push_word_bound<'a>(
@@ -56,7 +55,7 @@ fn push_low(
     ensures ok { OnOk result (out.new.items ≡ out.old.items ++ lines_text (behind begun (codes "BOUNDS") (low_lines name.now low high))) }
     ensures begun { IfOk result (λ b. b ≡ (begun || has_lines (low_lines name.now low high))) }
 {
-    if is_zero(low) && !is_negative(high) {
+    if low.is_zero() && !high.is_negative() {
         return Ok(begun);
     }
     push_bound(out, begun, b"LO", name, low)
@@ -73,7 +72,7 @@ fn push_both(
     ensures ok { OnOk result (out.new.items ≡ out.old.items ++ lines_text (behind begun (codes "BOUNDS") (both_lines name.now low high))) }
     ensures begun { IfOk result (λ b. b ≡ true) }
 {
-    if same(low, high) {
+    if low == high {
         return push_bound(out, begun, b"FX", name, low);
     }
     let begun = push_low(out, begun, name, low, high)?;
@@ -97,7 +96,7 @@ fn push_bounds_of(out: &mut Vec<u8>, begun: bool, name: &[u8], bounds: Row) -> R
     match (bounds.low, bounds.high) {
         (None, None) => push_word_bound(out, begun, b"FR", name),
         (None, Some(high)) => push_lowless(out, begun, name, high),
-        (Some(low), None) if is_zero(low) => Ok(begun),
+        (Some(low), None) if low.is_zero() => Ok(begun),
         (Some(low), None) => push_bound(out, begun, b"LO", name, low),
         (Some(low), Some(high)) => push_both(out, begun, name, low, high),
     }

@@ -2,14 +2,13 @@
 
 ghost use Rattle.std.specs.Prelude.{◌≡◌, ◌<◌, ◌≤◌, ◌++◌, length, OnOk};
 ghost use Rattle.mps_tokens.specs.Written.{ended};
-ghost use Rattle.mps_writer.specs.Lines.{lines_text, each};
-ghost use Rattle.mps_writer.specs.Canonical.{turn_lines, cost_line, entry_lines, marked_before, column_lines, columns_lines};
+ghost use Rattle.mps_writer_law.specs.Lines.{lines_text, each};
+ghost use Rattle.mps_writer_law.specs.Canonical.{turn_lines, cost_line, entry_lines, marked_before, column_lines, columns_lines};
 
 use crate::lines::{Field, push_line, push_word};
 use crate::parts::{column_name, row_name};
-use check_steps::is_zero;
 use frac_core::Memory;
-use program_model::Program;
+use program_data::Program;
 
 /// Puts the line last that begins or ends a stretch of marked columns, where the mark turns.
 fn push_turn(before: bool, now: bool, out: &mut Vec<u8>) -> Result<(), Memory>
@@ -59,7 +58,7 @@ fn push_entry(p: &Program, j: u32, i: u32, out: &mut Vec<u8>) -> Result<(), Memo
     ensures { OnOk result (out.new.items ≡ out.old.items ++ lines_text (entry_lines p.now j i)) }
 {
     let value = p.entry(i, j);
-    if is_zero(value) {
+    if value.is_zero() {
         return Ok(());
     }
     push_line(
@@ -96,7 +95,7 @@ fn push_each_column(p: &Program, out: &mut Vec<u8>) -> Result<(), Memory>
 }
 
 /// Puts the section of the columns last.
-#[tactic(auto, using(crate::proofs::LineLemmas::lines_last))]
+#[tactic(auto, using(mps_writer_law::proofs::LineLemmas::lines_last))]
 pub(crate) fn push_columns(p: &Program, out: &mut Vec<u8>) -> Result<(), Memory>
     ensures { OnOk result (out.new.items ≡ out.old.items ++ lines_text (columns_lines p.now)) }
 {

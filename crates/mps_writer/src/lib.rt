@@ -3,7 +3,6 @@
 
 mod bounds;
 mod columns;
-mod laws;
 mod lines;
 mod numbers;
 mod pairs;
@@ -13,5 +12,5 @@ mod sides;
 mod small;
 mod writing;
 
-pub use laws::{numbers_are_read_back, text_is_read_back};
+pub use mps_writer_law::{numbers_are_read_back, text_is_read_back};
 pub use writing::write;

@@ -2,7 +2,7 @@
 
 ghost use Rattle.std.specs.Prelude.{◌≡◌, ◌++◌, ◌∷◌, [], true, map, OnOk, IfOk};
 ghost use Rattle.mps_tokens.specs.Written.{ended};
-ghost use Rattle.mps_writer.specs.Lines.{data_line, lines_text, behind};
+ghost use Rattle.mps_writer_law.specs.Lines.{data_line, lines_text, behind};
 ghost use Rattle.mps_writer.specs.Fields.{field_text};
 
 use crate::numbers::{ROOM, put_number};

@@ -1,14 +1,13 @@
 // QUADOBJ.
 
 ghost use Rattle.std.specs.Prelude.{◌≡◌, ◌<◌, ◌++◌, ◌||◌, codes, length, OnOk, IfOk};
-ghost use Rattle.mps_writer.specs.Lines.{lines_text, behind, has_lines};
-ghost use Rattle.mps_writer.specs.Canonical.{pair_lines, row_pair_lines, pairs_lines};
+ghost use Rattle.mps_writer_law.specs.Lines.{lines_text, behind, has_lines};
+ghost use Rattle.mps_writer_law.specs.Canonical.{pair_lines, row_pair_lines, pairs_lines};
 
 use crate::lines::{Field, push_in_section};
 use crate::parts::column_name;
-use check_steps::is_zero;
 use frac_core::Memory;
-use program_model::Program;
+use program_data::Program;
 
 /// Puts the line of an entry of Q last, unless it is 0, and answers whether the section is begun.
 fn push_pair(p: &Program, j: u32, k: u32, out: &mut Vec<u8>, begun: bool) -> Result<bool, Memory>
@@ -18,7 +17,7 @@ fn push_pair(p: &Program, j: u32, k: u32, out: &mut Vec<u8>, begun: bool) -> Res
     ensures begun { IfOk result (λ b. b ≡ (begun || has_lines (pair_lines p.now j k))) }
 {
     let value = p.pair(j, k);
-    if is_zero(value) {
+    if value.is_zero() {
         return Ok(begun);
     }
     let fields = [

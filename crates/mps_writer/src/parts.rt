@@ -1,9 +1,9 @@
 // The names of a program's rows and columns by their places.
 
 ghost use Rattle.std.specs.Prelude.{◌≡◌, ◌<◌, length};
-ghost use Rattle.mps_writer.specs.Canonical.{row_name, column_name};
+ghost use Rattle.mps_writer_law.specs.Canonical.{row_name, column_name};
 
-use program_model::Program;
+use program_data::Program;
 
 /// A row's name.
 #[tactic(auto, using(crate::proofs::PartLemmas::name_found))]

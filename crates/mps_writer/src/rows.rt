@@ -1,23 +1,22 @@
 // ROWS.
 
 ghost use Rattle.std.specs.Prelude.{◌≡◌, ◌<◌, ◌++◌, length, OnOk};
-ghost use Rattle.mps_writer.specs.Lines.{lines_text};
-ghost use Rattle.mps_writer.specs.Canonical.{kind_word, row_line, rows_lines};
+ghost use Rattle.mps_writer_law.specs.Lines.{lines_text};
+ghost use Rattle.mps_writer_law.specs.Canonical.{kind_word, row_line, rows_lines};
 ghost use Rattle.mps_tokens.specs.Written.{ended};
 
 use crate::lines::{Field, push_line, push_word};
 use crate::parts::row_name;
-use check_steps::same;
 use frac_core::Memory;
+use program_data::Program;
 use program_law::Row;
-use program_model::Program;
 
 /// The word of a row's kind.
 fn kind_word(sides: Row) -> &'static [u8]
     ensures { result.now ≡ kind_word sides.low sides.high }
 {
     match (sides.low, sides.high) {
-        (Some(low), Some(high)) if same(low, high) => b"E",
+        (Some(low), Some(high)) if low.same(high) => b"E",
         (None, Some(_)) => b"L",
         _ => b"G",
     }

@@ -2,15 +2,14 @@
 
 ghost use Rattle.std.specs.Prelude.{◌≡◌, ◌<◌, ◌++◌, ◌∷◌, [], ◌||◌, codes, length, IfSome, OnOk, IfOk};
 ghost use Rattle.program_law.specs.Program.{IsRow};
-ghost use Rattle.mps_writer.specs.Lines.{lines_text, behind, has_lines, unless_zero};
-ghost use Rattle.mps_writer.specs.Canonical.{right_side, width, range_lines, right_sides_lines, ranges_lines};
+ghost use Rattle.mps_writer_law.specs.Lines.{lines_text, behind, has_lines, unless_zero};
+ghost use Rattle.mps_writer_law.specs.Canonical.{right_side, width, range_lines, right_sides_lines, ranges_lines};
 
 use crate::lines::{Field, push_in_section};
 use crate::parts::row_name;
-use check_steps::{is_zero, same};
 use frac_core::{Frac, Memory, Tried};
+use program_data::Program;
 use program_law::Row;
-use program_model::Program;
 
 /// The right side that a row is written with.
 fn right_side(sides: Row) -> Frac
@@ -28,7 +27,7 @@ fn push_right_side(out: &mut Vec<u8>, begun: bool, name: &[u8], value: Frac) -> 
     ensures ok { OnOk result (out.new.items ≡ out.old.items ++ lines_text (behind begun (codes "RHS") (unless_zero (codes "RHS" ∷ name.now ∷ []) value))) }
     ensures begun { IfOk result (λ b. b ≡ (begun || has_lines (unless_zero (codes "RHS" ∷ name.now ∷ []) value))) }
 {
-    if is_zero(value) {
+    if value.is_zero() {
         return Ok(begun);
     }
     let fields = [Field::Word(b"RHS"), Field::Word(name), Field::Number(value)];
@@ -52,7 +51,7 @@ fn width(sides: Row) -> Option<Frac>
     ensures { result ≡ width sides.low sides.high }
 {
     match (sides.low, sides.high) {
-        (Some(low), Some(high)) if !same(low, high) => match high - low {
+        (Some(low), Some(high)) if !low.same(high) => match high - low {
             Tried::Is(width) => Some(width),
             Tried::Past(_) => unreachable!(),
         },

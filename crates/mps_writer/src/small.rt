@@ -4,14 +4,15 @@ ghost use Rattle.std.specs.Prelude.{ℕ, ◌<◌, length};
 ghost use Rattle.rational.specs.Rational.{Fits};
 ghost use Rattle.frac_core.specs.Parts.{max_part};
 ghost use Rattle.program_law.specs.Program.{IsProgram};
-ghost use Rattle.program_law.specs.Vectors.{at, row_at};
-ghost use Rattle.mps_writer.specs.Canonical.{sides_at, bounds_at};
-ghost use Rattle.mps_writer.specs.Back.{IsReadBack};
-ghost use Rattle.mps_writer.specs.Small.{HasSmallSides, HasSmallNumbers};
+ghost use Rattle.rational.specs.Sums.{entry};
+ghost use Rattle.rational.specs.Vectors.{row_at};
+ghost use Rattle.mps_writer_law.specs.Canonical.{sides_at, bounds_at};
+ghost use Rattle.mps_writer_law.specs.Back.{IsReadBack};
+ghost use Rattle.mps_writer_law.specs.Small.{HasSmallSides, HasSmallNumbers};
 
 use frac_core::Frac;
+use program_data::Program;
 use program_law::Row;
-use program_model::Program;
 
 /// Shows that a number is small.
 fn show_number(number: Frac)
@@ -36,7 +37,7 @@ fn show_sides(sides: Row)
 /// Shows that the entries of a row are.
 fn show_row(p: &Program, i: u32)
     requires { i < length p.now.rows }
-    ensures { (j : ℕ) → j < length p.now.columns → Fits max_part (at (row_at p.now.entries i) j) }
+    ensures { (j : ℕ) → j < length p.now.columns → Fits max_part (entry (row_at p.now.entries i) j) }
 {
     for j in 0..p.columns() {
         show_number(p.entry(i, j));
@@ -45,7 +46,7 @@ fn show_row(p: &Program, i: u32)
 
 /// Shows that all entries are.
 fn show_entries(p: &Program)
-    ensures { (i j : ℕ) → i < length p.now.rows → j < length p.now.columns → Fits max_part (at (row_at p.now.entries i) j) }
+    ensures { (i j : ℕ) → i < length p.now.rows → j < length p.now.columns → Fits max_part (entry (row_at p.now.entries i) j) }
 {
     for i in 0..p.rows() {
         show_row(p, i);
@@ -54,7 +55,7 @@ fn show_entries(p: &Program)
 
 /// Shows that the costs are.
 fn show_costs(p: &Program)
-    ensures { (j : ℕ) → j < length p.now.columns → Fits max_part (at p.now.costs j) }
+    ensures { (j : ℕ) → j < length p.now.columns → Fits max_part (entry p.now.costs j) }
 {
     for j in 0..p.columns() {
         show_number(p.cost(j));
@@ -64,7 +65,7 @@ fn show_costs(p: &Program)
 /// Shows that the entries of a row of Q are.
 fn show_pairs_of(p: &Program, j: u32)
     requires { j < length p.now.columns }
-    ensures { (k : ℕ) → k < length p.now.columns → Fits max_part (at (row_at p.now.pairs j) k) }
+    ensures { (k : ℕ) → k < length p.now.columns → Fits max_part (entry (row_at p.now.pairs j) k) }
 {
     for k in 0..p.columns() {
         show_number(p.pair(j, k));
@@ -73,7 +74,7 @@ fn show_pairs_of(p: &Program, j: u32)
 
 /// Shows that all entries of Q are.
 fn show_pairs(p: &Program)
-    ensures { (j k : ℕ) → j < length p.now.columns → k < length p.now.columns → Fits max_part (at (row_at p.now.pairs j) k) }
+    ensures { (j k : ℕ) → j < length p.now.columns → k < length p.now.columns → Fits max_part (entry (row_at p.now.pairs j) k) }
 {
     for j in 0..p.columns() {
         show_pairs_of(p, j);

@@ -1,9 +1,9 @@
 // The whole text.
 
 ghost use Rattle.std.specs.Prelude.{◌≡◌, ◌++◌, OnOk, OnErr};
-ghost use Rattle.mps_writer.specs.Lines.{lines_text};
-ghost use Rattle.mps_writer.specs.Back.{IsReadBack};
-ghost use Rattle.mps_writer.specs.Canonical.{text_of_program};
+ghost use Rattle.mps_writer_law.specs.Lines.{lines_text};
+ghost use Rattle.mps_writer_law.specs.Back.{IsReadBack};
+ghost use Rattle.mps_writer_law.specs.Canonical.{text_of_program};
 
 use crate::bounds::push_bounds;
 use crate::columns::push_columns;
@@ -13,7 +13,7 @@ use crate::rows::push_rows;
 use crate::sides::{push_ranges, push_right_sides};
 use crate::small::show_read_back;
 use frac_core::Memory;
-use program_model::Program;
+use program_data::Program;
 use std::alloc::Global;
 
 /// Puts the canonical text of a program last.

@@ -12,7 +12,7 @@ use Rattle.program_law.proofs.Ring.{ring_by, x0, x1, x2, x3}
 use Rattle.algebra.proofs.Polynomial.{◌⊕◌, ◌⊗◌, num}
 use Rattle.rational.proofs.Wholes.{den-whole}
 use Rattle.program_law.specs.declared.Row.{Row}
-use Rattle.program_law.specs.Vectors.{dot, times, form}
+use Rattle.rational.specs.Vectors.{dot, rows_dot, form}
 use Rattle.program_law.specs.Region.{Region}
 use Rattle.program_law.specs.Program.{Program, sides, marks}
 use Rattle.program_law.specs.Point.{Point, sum_over, IsWithin, RowsWithin, ColumnsWithin, MarksDivide, IsRelaxedIn, IsFeasibleIn}
@@ -37,7 +37,7 @@ pairs_row_is q p (a ∷ row) (r ∷ rs) =
     ∙ ap (λ z. a *ℚ (ratio p q *ℚ ratio r q) +ℚ z) (pairs_row_is q p row rs)
     ∙ ring_by (a ∷ ratio p q ∷ ratio r q ∷ dot row (columns q rs) ∷ []) (x0 ⊗ (x1 ⊗ x2) ⊕ x3 ⊗ x1) ((x0 ⊗ x2 ⊕ x3) ⊗ x1) refl
 
-pub pairs_are : (q : Positive) (rows : List (List ℚ)) (ps rs : List ℤ) → pairs_over q rows ps rs ≡ dot (times rows (columns q rs)) (columns q ps)
+pub pairs_are : (q : Positive) (rows : List (List ℚ)) (ps rs : List ℤ) → pairs_over q rows ps rs ≡ dot (rows_dot rows (columns q rs)) (columns q ps)
 pairs_are q [] ps rs = refl
 pairs_are q (row ∷ rows) [] rs = refl
 pairs_are q (row ∷ rows) (p ∷ ps) rs =
@@ -64,13 +64,13 @@ whole_divides p q h =
     abs_multiple p (ratio p q).num q.size (sym (times_one p) ∙ ap (λ (d : ℕ). p *ℤ pos d) (sym h) ∙ sym (ratio_cross p q))
 
 -- ---- feasible points
-rows_to : (ss : List Row) (rows : List (List ℚ)) (point : Point) → RowsWithin ss rows point → AllWithin ss (times rows (columns_of point))
+rows_to : (ss : List Row) (rows : List (List ℚ)) (point : Point) → RowsWithin ss rows point → AllWithin ss (rows_dot rows (columns_of point))
 rows_to [] [] point w = tt
 rows_to [] (row ∷ rows) point w = w
 rows_to (s ∷ ss) [] point w = w
 rows_to (s ∷ ss) (row ∷ rows) point w = (subst (IsWithin s) (sum_is point.q row point.p) w.0, rows_to ss rows point w.1)
 
-rows_back : (ss : List Row) (rows : List (List ℚ)) (point : Point) → AllWithin ss (times rows (columns_of point)) → RowsWithin ss rows point
+rows_back : (ss : List Row) (rows : List (List ℚ)) (point : Point) → AllWithin ss (rows_dot rows (columns_of point)) → RowsWithin ss rows point
 rows_back [] [] point w = tt
 rows_back [] (row ∷ rows) point w = w
 rows_back (s ∷ ss) [] point w = w

@@ -16,7 +16,7 @@ use Rattle.rational.proofs.Fraction.{IsRatio-whole, IsRatio-ratio}
 use Rattle.rational.proofs.Field.{whole-+ℤ}
 use Rattle.rational.proofs.Order.{ordered_rationals, le_by_ratios}
 use Rattle.rational.proofs.Wholes.{num-whole, den-whole}
-use Rattle.program_law.specs.Tests.{is_zero, is_positive, is_negative, is_le}
+use Rattle.rational.specs.Tests.{is_zero, is_positive, is_negative, is_le}
 
 -- u + k d is at least u where k and d are not below 0, and at most u where d is not above 0
 pub le_more : {k d : ℚ} (u : ℚ) → zero_ℚ ≤ℚ k → zero_ℚ ≤ℚ d → u ≤ℚ (u +ℚ k *ℚ d)
@@ -161,3 +161,10 @@ falls u e t k h big =
     prove ordered_rationals (u ∷ t ∷ (whole (pos k) *ℚ e) ∷ whole (pos m) ∷ whole (pos (m + 1)) ∷ [])
     (λ u t f m n. u ⊕ f ≺ t ⇐ given (f ≼ minus n) ⊞ given (u ⊝ t ≼ m) ⊞ given (m ⊕ lit 1 ≐ n) ⊞ weight 1) refl
     (far_below e k (m + 1) (below_negative e h) big) (at_most_size (u -ℚ t)) (sym (whole-+ℤ (pos m) (pos 1)))
+
+pub two_differs : (q : ℚ) → q ≡ whole (pos 2) → q.num ≡ pos 0 → ⊥
+unfolding whole ratio gcd_of
+two_differs q e z = clash (sym (ap (λ (q : ℚ). q.num) e) ∙ z)
+  where
+    clash : pos 2 ≡ pos 0 → ⊥
+    clash e = cc

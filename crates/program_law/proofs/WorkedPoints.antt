@@ -8,7 +8,8 @@ use Rattle.rational.specs.Rational.{◌-ℚ◌, fits, ℚ, whole, ratio, neg_ℚ
 use Rattle.rational.specs.Order.{◌≤ℚ◌}
 use Rattle.program_law.proofs.Numbers.{le_tested}
 use Rattle.frac_core.specs.Parts.{max_part}
-use Rattle.program_law.specs.Vectors.{at, row_at}
+use Rattle.rational.specs.Sums.{entry}
+use Rattle.rational.specs.Vectors.{row_at}
 use Rattle.program_law.specs.Region.{left_of, right_of}
 use Rattle.program_law.specs.Program.{bounds, IsName, IsRow, marker, IsProgram}
 use Rattle.program_law.specs.Point.{Point, IsFeasible}
@@ -66,7 +67,7 @@ apart_two R x y h = AllPairs-cons R x (y ∷ []) (one (R x) y h) (AllPairs-cons 
 letter : (b : ℕ) → 33 ≤ b → b ≤ 126 → IsName (b ∷ [])
 letter b h k = record { some = omega arith; short = omega arith; printable = one (λ byte. (33 ≤ byte) × (byte ≤ 126)) b (h, k) }
 
-symmetric : (j k : ℕ) → at (row_at ranged.pairs j) k ≡ at (row_at ranged.pairs k) j
+symmetric : (j k : ℕ) → entry (row_at ranged.pairs j) k ≡ entry (row_at ranged.pairs k) j
 symmetric zero zero = refl
 symmetric zero (suc zero) = refl
 symmetric zero (suc (suc k)) = refl

@@ -3,7 +3,7 @@ use Rattle.std.specs.Prelude.{ℕ, zero, suc, ◌+◌, List, [], ◌∷◌, ◌+
 use Rattle.rational.specs.Rational.{ℚ, zero_ℚ}
 use Rattle.program_law.specs.declared.Row.{Row}
 use Rattle.program_law.specs.declared.Column.{Column}
-use Rattle.program_law.specs.Vectors.{row_at}
+use Rattle.rational.specs.Vectors.{row_at}
 use Rattle.program_law.specs.Program.{Program}
 
 -- no rows, no columns, and the constant 0

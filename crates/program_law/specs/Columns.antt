@@ -2,7 +2,7 @@
 use Rattle.std.specs.Prelude.{◌≡◌, List, [], ◌∷◌, Bool, true}
 use Rattle.rational.specs.Rational.{ℚ, ◌+ℚ◌, ◌*ℚ◌}
 use Rattle.program_law.specs.declared.Row.{Row}
-use Rattle.program_law.specs.Vectors.{dot, times, form}
+use Rattle.rational.specs.Vectors.{dot, rows_dot, form}
 use Rattle.program_law.specs.Program.{Program, sides, marks}
 use Rattle.program_law.specs.Region.{Region}
 use Rattle.program_law.specs.Point.{IsWithin}
@@ -26,7 +26,7 @@ AreWholeOn (m ∷ ms) (x ∷ xs) = (m ≡ true → IsWhole x) × AreWholeOn ms x
 
 -- x is a point of the region, the marks left out
 pub record IsRelaxedPoint (program : Program) (region : Region) (x : List ℚ) : Type 0 where
-  pub rows : AllWithin (sides program) (times program.entries x)
+  pub rows : AllWithin (sides program) (rows_dot program.entries x)
   pub columns : AllWithin region x
 
 -- x is a point of the region that keeps the marks

@@ -1,12 +1,16 @@
 -- Regions: a low and a high bound for each column, each of which may be absent.
-use Rattle.std.specs.Prelude.{◌≡◌, ℕ, zero, suc, List, [], ◌∷◌, Option, Some, None, ℤ, pos, ◌+ℤ◌, if◌then◌else◌}
+use Rattle.std.specs.Prelude.{◌≡◌, ℕ, zero, suc, List, [], ◌∷◌, Option, Some, None, ℤ, pos, ◌+ℤ◌, Bool, false, not, if◌then◌else◌, slice_index_or}
 use Rattle.rational.specs.Rational.{ℚ, whole}
 use Rattle.rational.specs.Order.{◌<ℚ◌}
-use Rattle.program_law.specs.Tests.{is_le}
+use Rattle.rational.specs.Tests.{is_le}
 use Rattle.program_law.specs.declared.Row.{Row}
 
 abbrev pub Region : Type 0
 Region = List Row
+
+-- the bounds at a column; none where there is no such column
+abbrev pub bounds_at : Region → ℕ → Row
+bounds_at region j = slice_index_or region j (record { low = None; high = None })
 
 -- the smaller of a high bound and k
 abbrev pub smaller : Option ℚ → ℚ → Option ℚ
@@ -37,6 +41,12 @@ left_of region j k = cut_high region j (whole k)
 -- the right region: at least k + 1
 abbrev pub right_of : Region → ℕ → ℤ → Region
 right_of region j k = cut_low region j (whole (k +ℤ pos 1))
+
+-- a low bound above a high one, both there, as a test
+abbrev pub is_above : Option ℚ → Option ℚ → Bool
+is_above None h = false
+is_above (Some l) None = false
+is_above (Some l) (Some h) = not (is_le l h)
 
 -- a low bound above the high one
 pub record IsCrossed (b : Row) : Type 0 where

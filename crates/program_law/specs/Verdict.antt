@@ -2,7 +2,7 @@
 use Rattle.std.specs.Prelude.{◌≡◌, List, map}
 use Rattle.rational.specs.Rational.{ℚ, ratio, zero_ℚ}
 use Rattle.rational.specs.Order.{◌≤ℚ◌, ◌<ℚ◌}
-use Rattle.program_law.specs.Vectors.{form}
+use Rattle.rational.specs.Vectors.{form}
 use Rattle.program_law.specs.Program.{Program}
 use Rattle.program_law.specs.Point.{Point, IsFeasible}
 use Rattle.program_law.specs.Value.{value_of}

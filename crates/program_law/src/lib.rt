@@ -9,10 +9,21 @@ ghost use Rattle.program_law.specs.Point.{Point, IsRelaxedIn, IsFeasibleIn};
 ghost use Rattle.program_law.specs.Value.{value_of};
 ghost use Rattle.program_law.specs.Verdict.{columns_of};
 ghost use Rattle.program_law.specs.Columns.{IsRelaxedPoint, IsPoint, value};
+ghost use Rattle.program_law.specs.Squares.{AreSquaresOf, IsSemidefinite};
+ghost use Rattle.program_law.specs.declared.Square.{Square};
 
 use frac_core::{Frac, Memory, Vector};
 use std::alloc::Global;
 use std::marker::Model;
+
+/// How many rows a program has at most.
+pub const MOST_ROWS: usize = 128;
+
+/// How many columns a program has at most.
+pub const MOST_COLUMNS: usize = 128;
+
+/// How many bytes a name has at most.
+pub const LONGEST_NAME: usize = 64;
 
 /// A row's low and high side, or a column's low and high bound. Each may be absent.
 #[derive(Clone, Copy)]
@@ -96,4 +107,9 @@ pub fn points_are_their_columns()
     ensures value { (program : Program) (point : Point) →
         value_of program point ≡ value program (columns_of point) }
     ensures every { (x : List ℚ) → (point : Point) × (columns_of point ≡ x) }
+{}
+
+/// Squares with positive weights sum to a semidefinite form.
+pub fn squares_are_semidefinite()
+    ensures { (q : List (List ℚ)) (squares : List Square) → AreSquaresOf q squares → IsSemidefinite q }
 {}

@@ -1,11 +1,2 @@
-pub mod Outcomes
-pub mod Rows
-pub mod NamedLemmas
-pub mod Padded
-pub mod Changed
-pub mod KeptLemmas
-pub mod Found
-pub mod RegionLemmas
-pub mod PointLemmas
+mod PointLemmas
 pub mod ValueLemmas
-pub mod DescentLemmas

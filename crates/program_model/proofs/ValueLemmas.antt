@@ -1,8 +1,7 @@
 -- The form of a vector, row by row.
-use Rattle.std.specs.Prelude.{◌≡◌, List, [], ◌∷◌, Result, Ok, Err, pos}
-use Rattle.std.proofs.Common.{refl, ap, sym, ◌∙◌}
-use Rattle.rational.specs.Rational.{ℚ, whole, ratio}
-use Rattle.rational.specs.Divisors.{gcd_of}
+use Rattle.std.specs.Prelude.{◌≡◌, List, [], ◌∷◌, Result, Ok, Err}
+use Rattle.std.proofs.Common.{refl}
+use Rattle.rational.specs.Rational.{ℚ}
 use Rattle.cert_check_law.specs.declared.Event.{Event}
 use Rattle.cert_check_law.specs.Chain.{◌>>=◌}
 use Rattle.cert_check_law.specs.Dot.{with_product, dot_from}
@@ -32,10 +31,3 @@ form_step total row rows xj xs x = by (row_product row xj x) (row_products rows 
 pub form_end : (total : Result ℚ Event) (x : List ℚ) → form_from total [] [] x ≡ total
 form_end (Ok s) x = refl
 form_end (Err e) x = refl
-
-pub two_differs : (q : ℚ) → q ≡ whole (pos 2) → q.num ≡ pos 0 → ⊥
-unfolding whole ratio gcd_of
-two_differs q e z = clash (sym (ap (λ (q : ℚ). q.num) e) ∙ z)
-  where
-    clash : pos 2 ≡ pos 0 → ⊥
-    clash e = cc

@@ -1,7 +1,2 @@
-pub mod Named
-pub mod Answers
-pub mod Kept
-pub mod Regions
 pub mod Tested
 pub mod Totals
-pub mod Descents

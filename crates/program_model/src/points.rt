@@ -8,13 +8,13 @@ ghost use Rattle.cert_check_law.specs.Value.{form_of, half_form, value_of};
 ghost use Rattle.program_model.specs.Totals.{total_with};
 ghost use Rattle.program_model.specs.Tested.{event_of, IsPointEvent, IsInsideIfTold, IsValueIfTold};
 
-use crate::program::Program;
-use crate::regions::Region;
 use cert_check_law::Event;
 use check_steps::{
     column_tested, dot_with, entry, product_added, quotient, row_product, row_tested, sum,
 };
 use frac_core::{Frac, Refused, Tried, Vector};
+use program_data::Program;
+use program_regions::Region;
 
 /// What the tests of a point find: it is inside, or the first row whose sum is outside its sides, or else the first column
 /// that is outside its bounds or is marked and not whole.

@@ -13,9 +13,9 @@ use Rattle.mps_grammar.specs.Lines.{is_passed}
 use Rattle.mps_grammar.specs.Words.{word_of}
 use Rattle.mps_grammar.specs.Verdict.{Fault}
 use Rattle.mps_grammar.specs.Reading.{Spot, read_of, rest_of, first_shown}
-use Rattle.cert_text.specs.Text.{Lines, lines_text, certificate_lines, certificate_text}
-use Rattle.cert_text.specs.Reading as reading
-use Rattle.cert_text.proofs.ReadBack.{read_back}
+use Rattle.cert_grammar.specs.Text.{Lines, lines_text, certificate_lines, certificate_text}
+use Rattle.cert_text_law.specs.Reading as reading
+use Rattle.cert_text_law.proofs.ReadBack.{read_back}
 use Rattle.mps_reader.specs.Appended.{EndsInLineFeed, BeginsShown}
 use Rattle.mps_reader.proofs.AppendedLines.{raw_more}
 use Rattle.mps_reader.proofs.AppendedReading.{read_more, rest_more, drop_more}
@@ -23,10 +23,12 @@ use Rattle.mps_reader.proofs.WholePrograms.{read_program}
 use Rattle.branching.specs.declared.stops.DecideStop.{DecideStop}
 use Rattle.branching.specs.declared.stops.DecideStop.TheVariants as halted
 use Rattle.cert_check_law.specs.declared.Checked.{Checked}
-use Rattle.qp_engine.specs.Solving.{IsReadable, IsCheckedDue, IsStopDue, IsSolveDue}
-use Rattle.qp_engine.specs.Said.{Said, said}
-use Rattle.qp_engine.specs.Due.{longest, file_due, answer_due, certificate_due, check_due, IsDue, IsDueBy, IsReadDue, IsTaskDue}
-use Rattle.qp_engine.specs.declared.status.Status.TheVariants as status
+use Rattle.qp_answers.specs.Outcomes.{IsReadable, IsCheckedDue, IsStopDue}
+use Rattle.qp_engine.specs.Solving.{IsSolveDue}
+use Rattle.qp_answers.specs.Said.{Said, said}
+use Rattle.qp_engine.specs.Due.{longest, certificate_due, check_due, IsDue, IsDueBy, IsReadDue, IsTaskDue}
+use Rattle.qp_answers.specs.Answers.{file_due, answer_due}
+use Rattle.qp_answers.specs.declared.status.Status.TheVariants as status
 use Rattle.qp_words.specs.declared.order.Order.{Order}
 use Rattle.qp_words.specs.declared.order.Task.{Task}
 use Rattle.qp_words.specs.declared.order.Task.TheVariants.{Check, Solve}

@@ -1,14 +1,15 @@
 -- How a run that met what was due ended.
 use Rattle.std.proofs.Common.{◌≡◌, ℕ, ◌<◌, List, length, Option, Some, None, IfSome, sym, subst, codes}
 use Rattle.std.specs.Io.KnownBytes.{Appends}
-use Rattle.qp_engine.specs.Said.{Said}
-use Rattle.qp_engine.specs.Due.{longest, file_due, IsDue}
+use Rattle.qp_answers.specs.Said.{Said, HasText}
+use Rattle.qp_engine.specs.Due.{longest, IsDue}
+use Rattle.qp_answers.specs.Answers.{file_due}
 use Rattle.qp_engine.specs.Sampling.{IsSampleDue}
-use Rattle.qp_engine.specs.Runs.{HasText, Meets, MeetsDue}
+use Rattle.qp_engine.specs.Runs.{Meets, MeetsDue}
 use Rattle.qp_words.specs.declared.order.Order.{Order}
 use Rattle.qp_engine.proofs.Judged.{long_due}
-use Rattle.qp_engine.specs.declared.status.Status.{Status}
-use Rattle.qp_engine.specs.declared.status.Status.TheVariants as status
+use Rattle.qp_answers.specs.declared.status.Status.{Status}
+use Rattle.qp_answers.specs.declared.status.Status.TheVariants as status
 
 -- ---- what was taken
 

@@ -14,10 +14,11 @@ use Rattle.branching.specs.Stops.{IsStopOf}
 use Rattle.branching.specs.declared.stops.DecideStop.{DecideStop}
 use Rattle.branching.specs.declared.stops.DecideStop.TheVariants.{Memory, Bases, Boxes, Past}
 use Rattle.qp_words.specs.declared.order.Order.{Order}
-use Rattle.qp_engine.specs.Said.{Said}
+use Rattle.qp_answers.specs.Said.{Said}
 use Rattle.qp_engine.specs.Sampling.{sample, IsSampled, IsSampleDue}
 use Rattle.qp_engine.specs.Enough.{AreManyBases, AreManyBoxes, HasRoom}
-use Rattle.qp_engine.specs.Solving.{IsSolved, IsSolveDue, IsStopDue, IsWithheld}
+use Rattle.qp_engine.specs.Solving.{IsSolved, IsSolveDue, IsWithheld}
+use Rattle.qp_answers.specs.Outcomes.{IsStopDue}
 
 clash : (b n : ℕ) → b + 2 ≤ n → n ≤ b → ⊥
 clash b n h k = omega (arith, h, k)

@@ -5,8 +5,9 @@ use Rattle.program_law.specs.Program.{Program}
 use Rattle.mps_grammar.specs.Words.{word_of}
 use Rattle.mps_grammar.specs.Verdict.{Fault}
 use Rattle.mps_grammar.specs.Reading.{Spot, read_of, rest_of}
-use Rattle.qp_engine.specs.Said.{Said}
-use Rattle.qp_engine.specs.Due.{longest, file_due, IsDue, IsProgramDue, IsTaskDue}
+use Rattle.qp_answers.specs.Said.{Said}
+use Rattle.qp_engine.specs.Due.{longest, IsDue, IsProgramDue, IsTaskDue}
+use Rattle.qp_answers.specs.Answers.{file_due}
 use Rattle.qp_words.specs.declared.order.Order.{Order}
 
 pub long_due : (order : Order) (input : List ℕ) (s : Said) → longest < length input → s ≡ file_due 0 (codes "TextLong") → IsDue order input s

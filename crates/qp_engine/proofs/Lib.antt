@@ -4,6 +4,4 @@ pub mod Solved
 pub mod Shown
 pub mod Enough
 pub mod OneText
-pub mod Written
 pub mod Accepted
-pub mod SmallNumbers

@@ -13,8 +13,9 @@ use Rattle.branching.specs.Stops.{IsStopOf, IsOfBudget}
 use Rattle.branching.specs.declared.stops.DecideStop.{DecideStop}
 use Rattle.branching.specs.declared.stops.DecideStop.TheVariants as halted
 use Rattle.branching.proofs.OneEnding.{one_certificate, one_stop, not_both}
-use Rattle.qp_engine.specs.Said.{Said}
-use Rattle.qp_engine.specs.Solving.{IsCheckedDue, IsFoundDue, IsStopDue, IsSolved, IsSolveDue}
+use Rattle.qp_answers.specs.Said.{Said}
+use Rattle.qp_answers.specs.Outcomes.{IsCheckedDue, IsFoundDue, IsStopDue}
+use Rattle.qp_engine.specs.Solving.{IsSolved, IsSolveDue}
 use Rattle.qp_engine.specs.OnlyTexts.{IsPastDue, IsPastOf}
 use Rattle.qp_engine.specs.Due.{longest, IsDue, IsDueBy, IsReadDue, IsTaskDue}
 use Rattle.qp_words.specs.declared.order.Order.{Order}

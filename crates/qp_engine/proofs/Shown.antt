@@ -17,11 +17,11 @@ use Rattle.branching.specs.Stops.{IsStopOf}
 use Rattle.branching.specs.declared.stops.DecideStop.{DecideStop}
 use Rattle.sample_make.specs.Samples.{sample_of, IsOptimalVerdict}
 use Rattle.qp_words.specs.declared.order.Order.{Order}
-use Rattle.qp_engine.specs.Said.{Said, said}
-use Rattle.qp_engine.specs.Solving.{IsStopDue}
+use Rattle.qp_answers.specs.Said.{Said, said}
+use Rattle.qp_answers.specs.Outcomes.{IsStopDue}
 use Rattle.qp_engine.specs.Sampling.{sample, sample_text, HasSampled, IsSampleDue, IsShownBy, IsShownDue}
-use Rattle.qp_engine.specs.Withheld.{check_text}
-use Rattle.qp_engine.specs.declared.status.Status.TheVariants as status
+use Rattle.qp_answers.specs.Withheld.{check_text}
+use Rattle.qp_answers.specs.declared.status.Status.TheVariants as status
 
 -- a certificate whose verdict is optimal is no other
 no_other : (c : Certificate) → IsOptimalVerdict (verdict_of c) → ((x : List ℚ) (v : ℚ) (squares : List Square) (tree : List Node) → c ≡ Optimal x v squares tree → ⊥) → ⊥
@@ -76,3 +76,10 @@ sample_stop_is_due order p bases boxes stop s e same_bases same_boxes is stops d
     due = subst (λ p. IsStopDue p order.bases stop s) e (subst (λ (n : ℕ). IsStopDue p n stop s) same_bases due);
   }),
 )
+
+-- what is withheld is not done
+pub never_done : (s : Said) (P : Type 0) → s.status ≡ status.Withheld → s.status ≡ status.Done → P
+never_done s P e done = absurd (apart (sym e ∙ done))
+  where
+    apart : status.Withheld ≡ status.Done → ⊥
+    apart e = cc

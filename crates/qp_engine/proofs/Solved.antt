@@ -4,11 +4,12 @@ use Rattle.program_law.specs.Program.{Program}
 use Rattle.certificate_law.specs.declared.Certificate.{Certificate}
 use Rattle.certificate_law.specs.Good.{IsGood}
 use Rattle.certificate_law.proofs.Verdicts.{good_is_true}
-use Rattle.cert_text.specs.Text.{certificate_text}
-use Rattle.cert_text.specs.Writable.{IsWritable, NumbersFit}
+use Rattle.cert_grammar.specs.Text.{certificate_text}
+use Rattle.cert_grammar.specs.Writable.{IsWritable, NumbersFit}
 use Rattle.branching.specs.Decided.{IsFound}
-use Rattle.qp_engine.specs.Said.{Said}
-use Rattle.qp_engine.specs.Solving.{IsFoundDue, IsSolveDue}
+use Rattle.qp_answers.specs.Said.{Said}
+use Rattle.qp_answers.specs.Outcomes.{IsFoundDue}
+use Rattle.qp_engine.specs.Solving.{IsSolveDue}
 use Rattle.qp_engine.specs.Runs.{HasSolved}
 
 -- the text of a good certificate settles the program

@@ -1,61 +1,27 @@
 -- How a run is to end for its task and its input, and what it is to write.
-use Rattle.std.specs.Prelude.{◌≡◌, ℕ, Bool, true, false, ◌+◌, List, ◌++◌, length, drop, Option, Some, None, Result, Ok, Err, nat_lt, codes}
-use Rattle.std.specs.Fmt.{decimal}
+use Rattle.std.specs.Prelude.{◌≡◌, ℕ, Bool, true, false, ◌+◌, List, length, drop, Option, Some, None, Result, Ok, Err, nat_lt, codes}
 use Rattle.program_law.specs.Program.{Program}
 use Rattle.cert_check_law.specs.Check.{checked, answer}
-use Rattle.cert_check_law.specs.declared.Checked.{Checked}
-use Rattle.cert_check_law.specs.declared.Checked.TheVariants.{Accepted, Rejected, Past}
 use Rattle.mps_tokens.specs.Lines.{raw_lines}
 use Rattle.mps_grammar.specs.Words.{word_of}
 use Rattle.mps_grammar.specs.Verdict.{Fault}
 use Rattle.mps_grammar.specs.Reading.{Spot, read_of, rest_of}
-use Rattle.mps_writer.specs.Canonical.{text_of_program}
-use Rattle.cert_text.specs.declared.kinds.CertKind.{CertKind}
-use Rattle.cert_text.specs.declared.kinds.CertKind.TheVariants as cert
-use Rattle.cert_text.specs.Reading.{Answer}
-use Rattle.cert_text.specs.Reading as reading
-use Rattle.qp_engine.specs.Said.{Said, said}
-use Rattle.qp_engine.specs.Withheld.{check_text}
+use Rattle.mps_writer_law.specs.Canonical.{text_of_program}
+use Rattle.cert_text_law.specs.Reading.{Answer}
+use Rattle.cert_text_law.specs.Reading as reading
+use Rattle.qp_answers.specs.Said.{Said, said}
+use Rattle.qp_answers.specs.Answers.{answer_due, certificate_word, file_due}
 use Rattle.qp_engine.specs.Solving.{IsSolveDue}
 use Rattle.qp_words.specs.declared.order.Order.{Order}
 use Rattle.qp_words.specs.declared.order.Task.{Task}
 use Rattle.qp_words.specs.declared.order.Task.TheVariants.{Check, Write, Solve, Sample}
-use Rattle.qp_engine.specs.declared.status.Status.TheVariants as status
+use Rattle.qp_answers.specs.declared.status.Status.TheVariants as status
 
 -- the most bytes of an input
 abbrev pub longest : ℕ
 longest = 1073741824
 
-abbrev pub usage_line : List ℕ
-usage_line = codes "usage: qp solve|check|write|sample [--bases N] [--boxes N] [--kind K] [--number N]\n"
-
--- where the words aren't those of a task
-abbrev pub usage_due : Said
-usage_due = said status.Usage usage_line
-
--- ---- faults of the input
-
--- an input that isn't taken: the line and the kind of its fault
-abbrev pub file_due : ℕ → List ℕ → Said
-file_due line kind = said status.FileRefused (codes "FILE " ++ (decimal line ++ (codes " " ++ (kind ++ codes "\n"))))
-
-abbrev pub certificate_word : CertKind → List ℕ
-certificate_word cert.CertEnd = codes "CertEnd"
-certificate_word cert.CertAfter = codes "CertAfter"
-certificate_word cert.CertLine = codes "CertLine"
-certificate_word cert.CertName = codes "CertName"
-certificate_word cert.CertPast = codes "CertPast"
-certificate_word cert.CertNumber = codes "CertNumber"
-certificate_word cert.CertOrder = codes "CertOrder"
-certificate_word cert.CertMany = codes "CertMany"
-
 -- ---- check
-
--- the answer of the checking calculation: accepted, a rule and its place, or an operation whose result doesn't fit
-abbrev pub answer_due : Checked → Said
-answer_due Accepted = said status.Done (codes "ACCEPTED\n")
-answer_due (Rejected rule place) = said status.Rejected (codes "REJECTED " ++ (decimal rule ++ (codes " " ++ (decimal place ++ codes "\n"))))
-answer_due (Past r) = said status.Withheld (check_text r)
 
 abbrev pub certificate_due : Program → Answer → Said
 certificate_due p (Err fault) = file_due fault.0 (certificate_word fault.1)

@@ -7,8 +7,8 @@ use Rattle.quad_solve.specs.declared.sites.Site.{Site}
 use Rattle.branching_law.specs.declared.Turn.{Turn}
 use Rattle.branching.specs.Stops.{IsStopOf}
 use Rattle.branching.specs.declared.stops.DecideStop.TheVariants.{Past}
-use Rattle.qp_engine.specs.Said.{Said}
-use Rattle.qp_engine.specs.Solving.{IsStopDue}
+use Rattle.qp_answers.specs.Said.{Said}
+use Rattle.qp_answers.specs.Outcomes.{IsStopDue}
 use Rattle.qp_words.specs.declared.order.Order.{Order}
 
 -- the text of a stop at an operation that is past

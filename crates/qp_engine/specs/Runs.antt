@@ -6,17 +6,17 @@ use Rattle.program_law.specs.Verdict.{IsTrueOf}
 use Rattle.certificate_law.specs.declared.Certificate.{Certificate}
 use Rattle.certificate_law.specs.Good.{IsGood, verdict_of}
 use Rattle.mps_grammar.specs.Reading.{Spot, read_of, rest_of}
-use Rattle.cert_text.specs.Text.{certificate_text}
-use Rattle.cert_text.specs.Reading as reading
+use Rattle.cert_grammar.specs.Text.{certificate_text}
+use Rattle.cert_text_law.specs.Reading as reading
 use Rattle.qp_streams.specs.Streams.{TakesFront}
-use Rattle.qp_engine.specs.Said.{Said}
+use Rattle.qp_answers.specs.Said.{Said}
 use Rattle.qp_engine.specs.Sampling.{HasSampled}
 use Rattle.qp_words.specs.Orders.{order_of}
 use Rattle.qp_words.specs.declared.order.Order.{Order}
 use Rattle.qp_words.specs.declared.order.Task.{Task}
 use Rattle.qp_words.specs.declared.order.Task.TheVariants.{Check, Write, Solve, Sample}
-use Rattle.qp_engine.specs.declared.status.Status.{Status}
-use Rattle.qp_engine.specs.declared.status.Status.TheVariants as status
+use Rattle.qp_answers.specs.declared.status.Status.{Status}
+use Rattle.qp_answers.specs.declared.status.Status.TheVariants as status
 
 -- ---- words
 
@@ -29,17 +29,6 @@ abbrev pub IsReading : Order → Type 0
 IsReading order = order.task ≢ Sample
 
 -- ---- output
-
--- a status that comes with a text of its own
-abbrev pub HasText : Status → Type 0
-HasText status.ReadFault = ⊥
-HasText status.WriteFault = ⊥
-HasText status.Memory = ⊥
-HasText status.Done = ⊤
-HasText status.FileRefused = ⊤
-HasText status.Usage = ⊤
-HasText status.Withheld = ⊤
-HasText status.Rejected = ⊤
 
 -- the status of a verdict, or of one that is withheld
 abbrev pub IsVerdict : Status → Type 0

@@ -1,18 +1,20 @@
 //! Laws of what is due.
 
-ghost use Rattle.cert_text.specs.Text.{certificate_text};
+ghost use Rattle.cert_grammar.specs.Text.{certificate_text};
 ghost use Rattle.certificate_law.specs.declared.Certificate.{Certificate};
 ghost use Rattle.cert_check_law.specs.Check.{answer, checked};
 ghost use Rattle.cert_check_law.specs.declared.Checked.TheVariants.{Accepted};
 ghost use Rattle.mps_grammar.specs.Reading.{Spot, read_of, rest_of};
 ghost use Rattle.mps_reader.specs.Appended.{EndsInLineFeed};
 ghost use Rattle.program_law.specs.Program.{IsProgram, Program};
-ghost use Rattle.qp_engine.specs.Due.{IsDue, answer_due, longest};
+ghost use Rattle.qp_engine.specs.Due.{IsDue, longest};
+ghost use Rattle.qp_answers.specs.Answers.{answer_due};
 ghost use Rattle.qp_engine.specs.Enough.{AreManyBases, AreManyBoxes, HasRoom};
-ghost use Rattle.qp_engine.specs.Said.{Said};
+ghost use Rattle.qp_answers.specs.Said.{Said};
 ghost use Rattle.qp_engine.specs.Sampling.{IsSampleDue, IsSampled, sample};
-ghost use Rattle.qp_engine.specs.Solving.{IsReadable, IsSolved, IsSolveDue};
-ghost use Rattle.qp_engine.specs.declared.status.Status.TheVariants as statuses;
+ghost use Rattle.qp_answers.specs.Outcomes.{IsReadable};
+ghost use Rattle.qp_engine.specs.Solving.{IsSolved, IsSolveDue};
+ghost use Rattle.qp_answers.specs.declared.status.Status.TheVariants as statuses;
 ghost use Rattle.qp_words.specs.declared.order.Order.{Order};
 ghost use Rattle.qp_words.specs.declared.order.Task.TheVariants.{Check, Solve};
 ghost use Rattle.std.specs.Prelude.{◌≡◌, ◌≤◌, ◌↔◌, ◌++◌, ℕ, List, None, Ok, length};

@@ -3,7 +3,7 @@
 ghost use Rattle.program_law.specs.Program.{IsProgram, Program};
 ghost use Rattle.qp_engine.specs.Due.{IsDue};
 ghost use Rattle.qp_engine.specs.OnlyTexts.{IsPastDue, IsPastOf};
-ghost use Rattle.qp_engine.specs.Said.{Said};
+ghost use Rattle.qp_answers.specs.Said.{Said};
 ghost use Rattle.qp_engine.specs.Solving.{IsSolveDue};
 ghost use Rattle.qp_words.specs.declared.order.Order.{Order};
 ghost use Rattle.std.specs.Prelude.{◌≡◌, ◌⊎◌, ℕ, List};

@@ -3,16 +3,16 @@
 ghost use Rattle.std.specs.Prelude.{◌≡◌, ◌≢◌, ◌<◌, ◌≤◌, ◌^◌, [], length, None, Some, IfSome, IfOk, OnOk, IsErrOf, string_bytes};
 ghost use Rattle.std.specs.Io.KnownBytes.{IsAtEnd, Keeps};
 ghost use Rattle.qp_io.specs.Causes.{Rose};
-ghost use Rattle.qp_engine.specs.Due.{usage_due, IsDue};
+ghost use Rattle.qp_answers.specs.Answers.{usage_due};
+ghost use Rattle.qp_engine.specs.Due.{IsDue};
 ghost use Rattle.qp_engine.specs.Sampling.{IsSampleDue};
 ghost use Rattle.qp_engine.specs.Runs.{ordered_by, HasSettled, HasShown, IsReading, Meets, MeetsDue, Settles};
 ghost use Rattle.qp_words.specs.Orders.{IsInRange};
 
-use crate::answers::{Answer, refused, usage};
 use crate::judging::judged;
 use crate::sampling::sampled;
-use crate::status::Status;
 use frac_core::Memory;
+use qp_answers::{Answer, Status, refused, usage};
 use qp_io::{Sink, SinkStop, Source};
 use qp_streams::{ReadStop, read_all, write_all};
 use qp_words::{Order, Task, order_of};

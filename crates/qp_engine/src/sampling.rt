@@ -2,20 +2,18 @@
 
 ghost use Rattle.std.specs.Prelude.{◌≡◌, ◌++◌, IfOk};
 ghost use Rattle.certificate_law.specs.Good.{IsGood, verdict_of};
-ghost use Rattle.cert_text.specs.Writable.{IsWritable};
+ghost use Rattle.cert_grammar.specs.Writable.{IsWritable};
 ghost use Rattle.program_law.specs.Verdict.{IsTrueOf};
 ghost use Rattle.qp_engine.specs.Sampling.{sample, sample_text, IsSampleDue, IsShownDue, HasSampled};
 ghost use Rattle.qp_engine.specs.Runs.{IsVerdict};
 ghost use Rattle.qp_words.specs.Orders.{IsInRange};
 
-use crate::answers::Answer;
-use crate::solving::{check_withheld, limits_of, stopped};
-use crate::status::Status;
-use crate::withheld::check_text;
+use crate::solving::{check_withheld, limits_of};
 use branching::decide;
 use certificate_law::Certificate;
 use frac_core::{Frac, Memory};
-use program_model::Program;
+use program_data::Program;
+use qp_answers::{Answer, Status, check_text, stopped};
 use qp_words::Order;
 use sample_make::laws::true_verdicts_are_optimal;
 use std::alloc::Global;
@@ -79,6 +77,6 @@ pub(crate) fn sampled(alloc: Global, order: Order) -> Result<Answer, Memory>
     let limits = limits_of(order);
     match decide(alloc, &program, limits) {
         Ok(certificate) => shown(alloc, order, &program, &certificate),
-        Err(stop) => stopped(alloc, &program, limits, stop),
+        Err(stop) => stopped(alloc, &program, limits.bases, &stop),
     }
 }

@@ -1,25 +1,21 @@
 //! How a program is decided, and what is written for it.
 
-ghost use Rattle.std.specs.Prelude.{◌≡◌, ◌≢◌, ◌≤◌, IfOk};
+ghost use Rattle.std.specs.Prelude.{◌≡◌, ◌≤◌, IfOk};
 ghost use Rattle.certificate_law.specs.Good.{IsGood};
-ghost use Rattle.cert_text.specs.Writable.{IsWritable};
+ghost use Rattle.cert_grammar.specs.Writable.{IsWritable};
 ghost use Rattle.cert_check_law.specs.Check.{answer, checked};
-ghost use Rattle.branching.specs.Stops.{HasPathIn};
-ghost use Rattle.qp_engine.specs.Solving.{told_by, IsFoundDue, IsSolveDue, IsStopDue};
+ghost use Rattle.qp_answers.specs.Outcomes.{told_by, IsFoundDue};
+ghost use Rattle.qp_engine.specs.Solving.{IsSolveDue};
 ghost use Rattle.qp_engine.specs.Runs.{HasSolved, IsVerdict};
 
-use crate::answers::Answer;
-use crate::paths::path_text;
-use crate::showing::show_numbers;
-use crate::status::Status;
-use crate::withheld::{bases_text, boxes_text, check_text, past_text};
-use branching::{DecideStop, Limits, decide};
+use branching::{Limits, decide};
 use cert_check::check;
 use cert_check_law::{Checked, good_fails_no_test};
 use cert_text::write_certificate;
 use certificate_law::Certificate;
 use frac_core::{Memory, Refused};
-use program_model::Program;
+use program_data::Program;
+use qp_answers::{Answer, Status, check_text, show_numbers, stopped};
 use qp_words::Order;
 use std::alloc::Global;
 
@@ -76,36 +72,6 @@ fn found(alloc: Global, program: &Program, certificate: &Certificate) -> Result<
     }
 }
 
-/// The answer to a program of which no certificate is found within the budgets.
-pub(crate) fn stopped(
-    alloc: Global,
-    program: &Program,
-    limits: Limits,
-    stop: DecideStop,
-) -> Result<Answer, Memory>
-    requires { HasPathIn program.now stop }
-    ensures due { IfOk result (IsStopDue program.now limits.bases stop) }
-    ensures withheld { IfOk result (λ a. a.status ≡ Status.Withheld) }
-{
-    match stop {
-        DecideStop::Bases(path, site) => {
-            let lines = path_text(alloc, program, &path)?;
-            let text = bases_text(alloc, limits.bases, &lines, &site)?;
-            Ok(Answer::of(Status::Withheld, text))
-        }
-        DecideStop::Past(path, site, refused) => {
-            let lines = path_text(alloc, program, &path)?;
-            let text = past_text(alloc, &lines, &site, refused)?;
-            Ok(Answer::of(Status::Withheld, text))
-        }
-        DecideStop::Boxes(boxes) => {
-            let text = boxes_text(alloc, boxes)?;
-            Ok(Answer::of(Status::Withheld, text))
-        }
-        DecideStop::Memory => Err(Memory),
-    }
-}
-
 /// The answer to a program that is to be decided within budgets.
 pub(crate) fn solved(alloc: Global, program: &Program, limits: Limits) -> Result<Answer, Memory>
     requires { limits.boxes ≤ 20000 }
@@ -118,6 +84,6 @@ pub(crate) fn solved(alloc: Global, program: &Program, limits: Limits) -> Result
             show_numbers(program, &certificate);
             found(alloc, program, &certificate)
         }
-        Err(stop) => stopped(alloc, program, limits, stop),
+        Err(stop) => stopped(alloc, program, limits.bases, &stop),
     }
 }

@@ -8,7 +8,7 @@ use Rattle.rational.specs.Order.{◌≤ℚ◌, same_fields, same_fields_lem, dif
 use Rattle.rational.specs.Vectors.{IsSemidefinite}
 use Rattle.rational.proofs.Order.{ordered_rationals, div-mul_cancel, lt_irrefl, lt_le, le_antisymm}
 use Rattle.rational.proofs.OrderLaws.{le_trans, le_of_eq}
-use Rattle.program_law.specs.Tests.{is_le}
+use Rattle.rational.specs.Tests.{is_le}
 use Rattle.program_law.proofs.Numbers.{le_tested, lt_tested}
 use Rattle.equational_law.specs.Form.{Form}
 use Rattle.equational_law.specs.Solutions.{IsForm, IsSolution, IsFormRay}

@@ -7,7 +7,7 @@ use Rattle.rational.specs.Rational.{ℚ, zero_ℚ}
 use Rattle.rational.specs.Order.{◌≤ℚ◌, ◌<ℚ◌, same_fields, same_fields_lem, differ_of_same_fields}
 use Rattle.rational.specs.Sums.{entry}
 use Rattle.rational.specs.Vectors.{HasColumns, rows_dot, row_at, combine, gradient, IsSymmetric, IsSemidefinite}
-use Rattle.program_law.specs.Tests.{is_negative, is_positive, is_le}
+use Rattle.rational.specs.Tests.{is_negative, is_positive, is_le}
 use Rattle.program_law.proofs.Numbers.{negative_below, below_negative, positive_above, above_positive, le_tested, lt_tested}
 use Rattle.linear_basis_law.specs.Problem.{Problem, IsProblem, height}
 use Rattle.linear_basis_law.specs.Lexicographic.{IsLexBelow}

@@ -21,7 +21,7 @@ use Rattle.frac_core.specs.Operations.{operation, IsWithin, IsFirstPast, Tries}
 use Rattle.frac_core.specs.Dot.{place_ops, dot_ops_from, dot_ops}
 use Rattle.frac_core.proofs.Operations.{tries_one}
 use Rattle.frac_core.proofs.Values.{tried-value}
-use Rattle.program_law.specs.Tests.{is_zero}
+use Rattle.rational.specs.Tests.{is_zero}
 use Rattle.program_law.specs.Program.{Program}
 use Rattle.program_law.proofs.Numbers.{zero_is, is_zero_zero}
 use Rattle.cert_check_law.specs.declared.Event.{Event}

@@ -4,7 +4,7 @@ use Rattle.std.specs.List.{AllByRecursion}
 use Rattle.std.proofs.Common.{refl, sym, ◌∙◌, ap, ap₂, subst, arith, append_assoc}
 use Rattle.rational.specs.Rational.{ℚ}
 use Rattle.rational.specs.Order.{◌≤ℚ◌, ◌<ℚ◌}
-use Rattle.program_law.specs.Tests.{is_le}
+use Rattle.rational.specs.Tests.{is_le}
 use Rattle.program_law.specs.Program.{Program}
 use Rattle.program_law.specs.Columns.{value}
 use Rattle.program_law.proofs.Numbers.{le_tested, lt_tested}

@@ -7,8 +7,8 @@ use Rattle.rational.proofs.Rounding.{IsFloor-floor_of}
 use Rattle.program_law.specs.Region.{Region, IsCrossedRegion}
 use Rattle.program_law.specs.Program.{Program, marks}
 use Rattle.program_law.specs.Columns.{AreWholeOn}
-use Rattle.program_law.specs.Vectors.{at}
-use Rattle.program_model.specs.Regions.{first_crossed}
+use Rattle.rational.specs.Sums.{entry}
+use Rattle.program_regions.specs.Regions.{first_crossed}
 use Rattle.certificate_law.specs.declared.Node.{Node}
 use Rattle.certificate_law.specs.declared.Node.TheVariants.{Branch, Bound, Farkas, Cross}
 use Rattle.quad_solve_law.specs.Answer.{IsFound, IsEmpty, IsBest}
@@ -121,8 +121,8 @@ module _ (p : Program) (bases boxes : ℕ) (old : Progress) (h : IsOnWay ForPoin
 -- ---- branches
 
 -- the branch at the floor of the entry
-pub branch_of : (p : Program) (x : List ℚ) (j : ℕ) (e : ℚ) → IsFirst (IsFractionalAt p x) j → at x j ≡ e → IsBranch p x j (floor_of e)
-branch_of p x j e first is = subst (λ (q : ℚ). IsBranch p x j (floor_of q)) is (record { first = first; floor = IsFloor-floor_of (at x j) })
+pub branch_of : (p : Program) (x : List ℚ) (j : ℕ) (e : ℚ) → IsFirst (IsFractionalAt p x) j → entry x j ≡ e → IsBranch p x j (floor_of e)
+branch_of p x j e first is = subst (λ (q : ℚ). IsBranch p x j (floor_of q)) is (record { first = first; floor = IsFloor-floor_of (entry x j) })
 
 pub fewer : (aim : Search) (p : Program) (bases boxes : ℕ) (old : Progress) (h : IsOnWay aim p bases boxes true old) → (old.branches ≡ boxes → ⊥) → branches h.nodes < boxes
 fewer aim p bases boxes old h other =

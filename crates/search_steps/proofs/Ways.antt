@@ -7,8 +7,8 @@ use Rattle.frac_core.specs.Parts.{max_part}
 use Rattle.rational.specs.Rational.{whole}
 use Rattle.program_law.specs.Region.{Region, cut_high, cut_low}
 use Rattle.program_law.specs.Program.{Program, bounds}
-use Rattle.program_model.specs.declared.descents.Cut as cuts
-use Rattle.program_model.specs.Descents.{cuts_of}
+use Rattle.program_regions.specs.declared.descents.Cut as cuts
+use Rattle.program_regions.specs.Descents.{cuts_of}
 use Rattle.branching_law.specs.declared.Cut.{Cut}
 use Rattle.branching_law.specs.declared.Cut.TheVariants.{Above}
 use Rattle.branching_law.specs.declared.Turn.{Turn}

@@ -1,7 +1,7 @@
 -- The incumbent as it is kept.
 use Rattle.std.specs.Prelude.{◌≡◌, List, Option, Some, None, Bool, true, not}
 use Rattle.rational.specs.Rational.{ℚ}
-use Rattle.program_law.specs.Tests.{is_le}
+use Rattle.rational.specs.Tests.{is_le}
 use Rattle.program_law.specs.Program.{Program}
 use Rattle.program_law.specs.Columns.{value}
 use Rattle.search_steps.specs.declared.progress.Incumbent.{Incumbent}

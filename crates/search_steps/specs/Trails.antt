@@ -7,7 +7,7 @@ use Rattle.branching_law.specs.declared.Cut.TheVariants.{Below, Above}
 use Rattle.branching_law.specs.declared.Turn.{Turn}
 use Rattle.branching_law.specs.Paths.{region_of, below, above}
 use Rattle.program_law.specs.Region.{Region}
-use Rattle.program_model.specs.declared.descents.Cut as cuts
+use Rattle.program_regions.specs.declared.descents.Cut as cuts
 use Rattle.search_steps.specs.declared.trails.Trail.{Trail}
 
 -- a cut with its turn, and the region before it

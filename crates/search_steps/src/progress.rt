@@ -13,7 +13,6 @@ ghost use Rattle.search_steps.specs.Trees.{nodes_before};
 use crate::trails::Trail;
 use crate::trees::opened;
 use certificate_law::{Node, TreeBuilder};
-use check_steps::at_most;
 use frac_core::{Frac, Memory, Vector};
 use std::alloc::Global;
 
@@ -41,7 +40,7 @@ pub fn is_below(value: Frac, incumbent: &Option<Incumbent>) -> bool
 {
     match incumbent {
         None => true,
-        Some(incumbent) => !at_most(incumbent.value, value),
+        Some(incumbent) => !incumbent.value.at_most(value),
     }
 }
 

@@ -2,8 +2,7 @@
 
 ghost use Rattle.std.specs.Prelude.{◌≡◌, ◌+◌, ◌<◌, length, IfOk, OnOk, Ok, true, false};
 ghost use Rattle.std.specs.List.{AllByRecursion};
-ghost use Rattle.program_law.specs.Region.{IsCrossedRegion};
-ghost use Rattle.cert_check_law.specs.Tree.{bounds_at};
+ghost use Rattle.program_law.specs.Region.{IsCrossedRegion, bounds_at};
 ghost use Rattle.branching_law.specs.declared.Turn.{Turn};
 ghost use Rattle.branching_law.specs.Paths.{region_of};
 ghost use Rattle.branching_law.specs.Rounding.{IsMarkedAt, IsFractional, IsRounding, IsRoundingTo};
@@ -14,7 +13,8 @@ use crate::trails::Trail;
 use crate::turns::{no_turns, turn_above, turn_below, whole_after, whole_before};
 use branching_law::Turn;
 use frac_core::{Memory, Vector};
-use program_model::{Program, Region};
+use program_data::Program;
+use program_regions::Region;
 use std::alloc::Global;
 
 // Raises a low bound that isn't whole to the next whole number.

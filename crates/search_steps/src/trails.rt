@@ -11,7 +11,7 @@ ghost use Rattle.search_steps.specs.Trails.{path_of, waiting_of, paths_left, IsT
 use crate::turns::{turn_below, whole_before};
 use branching_law::{Cut, Turn};
 use frac_core::{Frac, Memory, Vector};
-use program_model::{Descent, Region};
+use program_regions::{Descent, Region};
 use std::alloc::Global;
 
 /// The turns from the program's bounds to a region, rounding's first.

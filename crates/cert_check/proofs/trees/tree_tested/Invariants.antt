@@ -1,7 +1,7 @@
 use Rattle.std.specs.List.{AllByRecursion}
 use Rattle.std.proofs.Common.{◌≡◌, ◌+◌, ◌≤◌, [], ◌∷◌, length, drop}
 use Rattle.program_law.specs.Program.{bounds}
-use Rattle.cert_check_law.specs.Fits.{FitsNode}
+use Rattle.certificate_law.specs.Fits.{FitsNode}
 use Rattle.cert_check_law.specs.Tree.{nodes_from}
 use Rattle.cert_check.specs.Walk.{waiting_of, branches}
 use Rattle.cert_check.proofs.trees.tree_tested.Given as goal

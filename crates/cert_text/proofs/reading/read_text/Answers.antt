@@ -1,5 +1,5 @@
 use Rattle.std.proofs.Common.{sym}
-use Rattle.cert_text.proofs.Readings.{claimed, unclaimed}
+use Rattle.cert_text_law.proofs.Readings.{claimed, unclaimed}
 use Rattle.cert_text.proofs.reading.read_text.Goals as goal
 
 pub returns-in_default-claim_in : goal.returns-in_default-claim_in

@@ -2,7 +2,7 @@ use Rattle.std.specs.Prelude.{List, Result}
 use Rattle.std.proofs.Common.{sym, subst, ◌∙◌}
 use Rattle.rational.specs.Rational.{ℚ}
 use Rattle.frac_core.specs.declared.fractions.Refused.{Refused}
-use Rattle.program_law.specs.Vectors.{row_at}
+use Rattle.rational.specs.Vectors.{row_at}
 use Rattle.frac_core.specs.Calculated.{Leaves}
 use Rattle.convexity.proofs.Steps.{less_is}
 use Rattle.convexity.proofs.reduction.free_row.Goals as goal

@@ -2,8 +2,8 @@ use Rattle.std.specs.Prelude.{◌≡◌, ◌+◌, List, drop, length}
 use Rattle.std.proofs.Common.{ap, sym, ◌∙◌, arith}
 use Rattle.std.proofs.Math.ListN.{length-set}
 use Rattle.rational.specs.Rational.{ℚ}
-use Rattle.program_law.specs.Vectors.{row_at}
-use Rattle.convexity.specs.Chain.{row_answered}
+use Rattle.rational.specs.Vectors.{row_at}
+use Rattle.symmetric_half.specs.Chain.{row_answered}
 use Rattle.convexity.specs.ReductionCalculation.{less_product}
 use Rattle.convexity.proofs.Steps.{entry_is, tail_is, half_width, freed_more, freed_end}
 use Rattle.convexity.proofs.reduction.free_rows.Goals as goal

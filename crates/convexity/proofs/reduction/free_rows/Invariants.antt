@@ -1,5 +1,5 @@
 use Rattle.std.proofs.Common.{◌≡◌, ◌+◌, take, drop, length}
-use Rattle.program_law.specs.Vectors.{row_at}
+use Rattle.rational.specs.Vectors.{row_at}
 use Rattle.convexity.specs.Places.{freed_onto}
 use Rattle.convexity.proofs.reduction.free_rows.Given as goal
 

@@ -3,13 +3,14 @@ use Rattle.std.proofs.Common.{ap, ◌∙◌, arith}
 use Rattle.std.proofs.lemmas.Result.{err_from_is_err_and}
 use Rattle.rational.specs.Rational.{ℚ, zero_ℚ}
 use Rattle.rational.specs.Order.{rational_cmp}
-use Rattle.program_law.specs.Vectors.{at, row_at}
+use Rattle.rational.specs.Sums.{entry}
+use Rattle.rational.specs.Vectors.{row_at}
 use Rattle.convexity.proofs.Steps.{divisor_is, divided_refused, freed_refused, step_square}
 use Rattle.convexity.proofs.reduction.take_square.Goals as goal
 
 pub divide_onto-requires-clause-divisor : goal.divide_onto-requires-clause-divisor
 divide_onto-requires-clause-divisor c =
-    divisor_is (at c.row.result.now 0) (ap (λ (r : List ℚ). rational_cmp (at r 0) zero_ℚ) c.row.ensures.row ∙ c.requires.diagonal)
+    divisor_is (entry c.row.result.now 0) (ap (λ (r : List ℚ). rational_cmp (entry r 0) zero_ℚ) c.row.ensures.row ∙ c.requires.diagonal)
 
 pub returns-in_err-divide_onto-clause-taken : goal.returns-in_err-divide_onto-clause-taken
 returns-in_err-divide_onto-clause-taken c =

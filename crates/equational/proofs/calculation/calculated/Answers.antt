@@ -1,71 +1,69 @@
-use Rattle.std.proofs.Common.{◌≡◌, List, Ok, ap, sym, ◌∙◌, length}
+use Rattle.std.proofs.Common.{◌≡◌, Ok, ap, sym, ◌∙◌, length}
+use Rattle.std.proofs.lemmas.List.{length-map}
 use Rattle.std.proofs.lemmas.Result.{err_from_is_err_and}
-use Rattle.rational.specs.Rational.{ℚ}
 use Rattle.frac_core.specs.Parts.{max_part}
-use Rattle.equational_law.specs.Standing.{shift, spread}
-use Rattle.equational_law.specs.Form.{padded, form_of}
+use Rattle.program_law.specs.declared.Row.{Row}
+use Rattle.equational_law.specs.Standing.{shift, shift_at, standing}
+use Rattle.equational_law.specs.Form.{form_of}
 use Rattle.equational_law.specs.Calculation.{form_in}
-use Rattle.equational.specs.Built.{Laid, all_slacks, objective_in, IsMade}
+use Rattle.equational_rows.specs.Built.{Laid, all_slacks, no_rows}
+use Rattle.equational.specs.Made.{IsMade}
 use Rattle.equational.specs.Formed.{Formed}
-use Rattle.equational.proofs.Whole.{made, is_stopped, objective_stops, rows_stop, columns_stop}
+use Rattle.equational.proofs.Whole.{made, is_stopped, objective_stops, equations_stop}
 use Rattle.equational.proofs.calculation.calculated.Goals as goal
-use Rattle.equational.proofs.calculation.calculated.Goals.{In_ok-cost}
+use Rattle.equational.proofs.calculation.calculated.Goals.{In_ok-rows}
 
-pub returns-in_err-costs-clause-calculation : goal.returns-in_err-costs-clause-calculation
-returns-in_err-costs-clause-calculation c =
-    let q = err_from_is_err_and c.from_residual-in_err-costs.result c.from_residual-in_err-costs.ensures.1 in
-    let bounds = c.bounds.ensures.bounds ∙ ap (λ (l : Laid). l.region) c.in_ok-layout.ensures in
+pub objective_of-requires-clause-region : goal.objective_of-requires-clause-region
+objective_of-requires-clause-region c = ap (λ (l : Laid). length l.region) c.in_ok-layout.ensures ∙ c.requires
+
+pub objective_of-requires-clause-shift : goal.objective_of-requires-clause-shift
+objective_of-requires-clause-shift c =
+    ap length (c.deref.ensures.value ∙ c.in_ok-h.ensures ∙ ap shift (c.bounds.ensures.bounds ∙ ap (λ (l : Laid). l.region) c.in_ok-layout.ensures))
+    ∙ length-map c.args.region.now (λ (b : Row). shift_at (standing b)) ∙ c.requires
+
+pub returns-in_err-objective-clause-calculation : goal.returns-in_err-objective-clause-calculation
+returns-in_err-objective-clause-calculation c =
+    let q = err_from_is_err_and c.from_residual-in_err-objective.result c.from_residual-in_err-objective.ensures.1 in
+    let h = c.deref.ensures.value ∙ c.in_ok-h.ensures ∙ ap shift (c.bounds.ensures.bounds ∙ ap (λ (l : Laid). l.region) c.in_ok-layout.ensures) in
     rw (q.1, q.2)
-    (is_stopped c.in_err-costs.field-0.0 _ (objective_stops c.in_err-costs.field-0.0 c.args.p.now c.args.region.now c.deref.result.now (c.deref.ensures.value ∙ c.in_ok-h.ensures ∙ ap shift bounds)
-    c.in_err-costs.ensures.objective))
+    (is_stopped c.in_err-objective.field-0.0 _
+    (objective_stops c.in_err-objective.field-0.0 c.args.p.now c.args.region.now c.deref.result.now c.in_ok-layout.layout h c.in_err-objective.ensures.objective))
 
-pub returns-in_err-firsts-clause-calculation : goal.returns-in_err-firsts-clause-calculation
-returns-in_err-firsts-clause-calculation c =
-    let p = c.args.p.now in
-    let q = err_from_is_err_and c.from_residual-in_err-firsts.result c.from_residual-in_err-firsts.ensures.1 in
-    let h = c.in_ok-h.ensures ∙ ap shift (c.bounds.ensures.bounds ∙ ap (λ (l : Laid). l.region) c.in_ok-layout.ensures) in
-    let first = c.deref.ensures.value ∙ h in
-    let second = c.deref-2.ensures.value ∙ h in
+pub all_equations-requires-clause-region : goal.all_equations-requires-clause-region
+all_equations-requires-clause-region c = ap (λ (l : Laid). length l.region) c.in_ok-layout.ensures ∙ c.requires
+
+pub all_equations-requires-clause-slacks : goal.all_equations-requires-clause-slacks
+all_equations-requires-clause-slacks c = ap (λ (l : Laid). l.row_slacks) c.in_ok-layout.ensures
+
+pub all_equations-requires-clause-shift : goal.all_equations-requires-clause-shift
+all_equations-requires-clause-shift c = c.deref-2.ensures.value ∙ c.in_ok-h.ensures ∙ ap shift c.bounds.ensures.bounds
+
+pub returns-in_err-rows-clause-calculation : goal.returns-in_err-rows-clause-calculation
+returns-in_err-rows-clause-calculation c =
+    let q = err_from_is_err_and c.from_residual-in_err-rows.result c.from_residual-in_err-rows.ensures.1 in
+    let h = c.deref.ensures.value ∙ c.in_ok-h.ensures ∙ ap shift (c.bounds.ensures.bounds ∙ ap (λ (l : Laid). l.region) c.in_ok-layout.ensures) in
     rw (q.1, q.2)
-    (is_stopped c.in_err-firsts.field-0.0 _ (rows_stop c.in_err-firsts.field-0.0 p c.args.region.now c.deref-2.result.now (c.in_ok-costs.costs.items, c.in_ok-costs.constant) c.in_ok-layout.layout
-    (all_slacks c.in_ok-layout.layout) c.new-rows.result second c.in_ok-layout.ensures (ap (objective_in max_part p) (second ∙ sym first) ∙ c.in_ok-costs.ensures.objective) c.in_err-firsts.ensures.equations))
-
-pub returns-in_err-columns_taken-clause-calculation : goal.returns-in_err-columns_taken-clause-calculation
-returns-in_err-columns_taken-clause-calculation c =
-    let p = c.args.p.now in
-    let q = err_from_is_err_and c.from_residual-in_err-columns_taken.result c.from_residual-in_err-columns_taken.ensures.1 in
-    let h = c.in_ok-h.ensures ∙ ap shift (c.bounds.ensures.bounds ∙ ap (λ (l : Laid). l.region) c.in_ok-layout.ensures) in
-    let first = c.deref.ensures.value ∙ h in
-    let second = c.deref-2.ensures.value ∙ h in
-    rw (q.1, q.2)
-    (is_stopped c.in_err-columns_taken.field-0.0 _ (columns_stop c.in_err-columns_taken.field-0.0 p c.args.region.now c.deref-2.result.now (c.in_ok-costs.costs.items, c.in_ok-costs.constant) c.in_ok-layout.layout
-    (all_slacks c.in_ok-layout.layout) c.new-rows.result c.rows_taken.new.rows second c.in_ok-layout.ensures (ap (objective_in max_part p) (second ∙ sym first) ∙ c.in_ok-costs.ensures.objective)
-    c.in_ok-firsts.ensures.equations c.in_err-columns_taken.ensures))
-
-pub cost-requires : goal.cost-requires
-cost-requires c = ap length c.deref-3.ensures.value ∙ c.in_ok-costs.ensures.count ∙ sym c.requires ∙ ap (λ (l : Laid). length l.region) (sym c.in_ok-layout.ensures)
+    (is_stopped c.in_err-rows.field-0.0 _
+    (equations_stop c.in_err-rows.field-0.0 c.args.p.now c.args.region.now c.deref.result.now c.in_ok-layout.layout (c.in_ok-objective.objective.cost, c.in_ok-objective.objective.constant)
+    (all_slacks c.in_ok-layout.layout) no_rows h c.in_ok-layout.ensures c.in_ok-objective.ensures.objective c.in_err-rows.ensures.equations))
 
 -- the calculation, and the form's parts
-whole : (c : In_ok-cost) → (form_in max_part c.args.p.now c.args.region.now ≡ Ok (form_of c.args.p.now c.args.region.now))
-    × IsMade c.args.p.now c.args.region.now c.in_ok-layout.layout c.columns_taken.new.rows c.in_ok-firsts.firsts.items c.in_ok-quadratic.quadratic.items c.in_ok-cost.cost c.in_ok-costs.constant
+whole : (c : In_ok-rows) → (form_in max_part c.args.p.now c.args.region.now ≡ Ok (form_of c.args.p.now c.args.region.now))
+    × IsMade c.args.p.now c.args.region.now c.in_ok-layout.layout c.in_ok-rows.rows c.in_ok-rows.firsts.items c.in_ok-objective.objective.quadratic.items c.in_ok-objective.objective.cost
+    c.in_ok-objective.objective.constant
 whole c =
-    let p = c.args.p.now in
-    let h = c.in_ok-h.ensures ∙ ap shift (c.bounds.ensures.bounds ∙ ap (λ (l : Laid). l.region) c.in_ok-layout.ensures) in
-    let first = c.deref.ensures.value ∙ h in
-    let second = c.deref-2.ensures.value ∙ h in
-    let l = c.in_ok-layout.layout in
-    made p c.args.region.now c.deref-2.result.now c.in_ok-costs.costs.items c.in_ok-costs.constant l c.new-rows.result c.rows_taken.new.rows c.columns_taken.new.rows c.in_ok-firsts.firsts.items
-    c.in_ok-quadratic.quadratic.items c.in_ok-cost.cost c.columns-columns.ensures.program c.requires second c.in_ok-layout.ensures
-    (ap (objective_in max_part p) (second ∙ sym first) ∙ c.in_ok-costs.ensures.objective) c.new-rows.ensures c.in_ok-firsts.ensures.equations c.in_ok-columns_taken.ensures c.in_ok-firsts.ensures.firsts
-    c.in_ok-quadratic.ensures (c.in_ok-cost.ensures ∙ ap (λ (cs : List ℚ). padded (all_slacks l) (spread l.region cs)) c.deref-3.ensures.value)
+    let h = c.deref.ensures.value ∙ c.in_ok-h.ensures ∙ ap shift (c.bounds.ensures.bounds ∙ ap (λ (l : Laid). l.region) c.in_ok-layout.ensures) in
+    made c.args.p.now c.args.region.now c.deref.result.now c.in_ok-layout.layout c.in_ok-rows.rows c.in_ok-rows.firsts.items c.in_ok-objective.objective.quadratic.items c.in_ok-objective.objective.cost
+    c.in_ok-objective.objective.constant c.columns-columns.ensures.program c.requires h c.in_ok-layout.ensures c.in_ok-objective.ensures.objective c.in_ok-objective.ensures.quadratic
+    c.in_ok-rows.ensures.equations c.in_ok-rows.ensures.firsts
 
 pub assembled-requires : goal.assembled-requires
 assembled-requires c = (c.args.p.now, (c.args.region.now, (whole c).1))
 
 pub returns-clause-exact : goal.returns-clause-exact
-returns-clause-exact c = c.assembled.ensures c.args.p.now c.args.region.now (whole (goal.at.returns-clause-exact c).In_ok-cost).1
+returns-clause-exact c = c.assembled.ensures c.args.p.now c.args.region.now (whole (goal.at.returns-clause-exact c).In_ok-rows).1
 
 pub returns-clause-calculation : goal.returns-clause-calculation
 returns-clause-calculation c =
-    let all = whole (goal.at.returns-clause-calculation c).In_ok-cost in
+    let all = whole (goal.at.returns-clause-calculation c).In_ok-rows in
     all.0 ∙ ap (λ (f : Formed). Ok f.form) (sym (c.assembled.ensures c.args.p.now c.args.region.now all.1))

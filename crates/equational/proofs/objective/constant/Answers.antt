@@ -1,4 +1,4 @@
-use Rattle.program_model.proofs.ValueLemmas.{two_differs}
+use Rattle.program_law.proofs.Numbers.{two_differs}
 use Rattle.equational.proofs.objective.constant.Goals as goal
 
 pub divided-requires : goal.divided-requires

@@ -7,4 +7,4 @@ use Rattle.equational.proofs.objective.products.Given as goal
 
 -- what is done and what is left give the whole
 abbrev pub invariant-loop-j : goal.invariant-loop-j
-invariant-loop-j l = ((products_in max_part (drop l.j l.p.pairs) l.h >>= λ qs. Ok (l.products.items ++ qs)) ≡ products_in max_part l.p.pairs l.h) × (length l.products.items ≡ l.j)
+invariant-loop-j l = ((products_in max_part (drop l.j l.p.pairs) l.h >>= λ qs. Ok (l.products ++ qs)) ≡ products_in max_part l.p.pairs l.h) × (length l.products ≡ l.j)

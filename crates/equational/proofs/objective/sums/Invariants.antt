@@ -7,4 +7,4 @@ use Rattle.equational.proofs.objective.sums.Given as goal
 
 -- what is done and what is left give the whole
 abbrev pub invariant-loop-j : goal.invariant-loop-j
-invariant-loop-j l = ((sums_in max_part (drop l.j l.costs) (drop l.j l.products) >>= λ qs. Ok (l.sums.items ++ qs)) ≡ sums_in max_part l.costs l.products) × (length l.sums.items ≡ l.j)
+invariant-loop-j l = ((sums_in max_part (drop l.j l.costs) (drop l.j l.products) >>= λ qs. Ok (l.sums ++ qs)) ≡ sums_in max_part l.costs l.products) × (length l.sums ≡ l.j)

@@ -1,5 +1,5 @@
 use Rattle.std.proofs.Common.{◌≡◌, ◌-◌, [], map}
-use Rattle.exact_matrix.specs.EliminationAnswers.{inverse_from}
+use Rattle.elimination_law.specs.Answers.{inverse_from}
 use Rattle.exact_matrix.specs.State.{state}
 use Rattle.exact_matrix.proofs.Assembled.{with_rest}
 use Rattle.exact_matrix.proofs.answers.inverse_entries.Given as goal

@@ -1,6 +1,6 @@
 use Rattle.std.proofs.Common.{◌≡◌, List, drop}
 use Rattle.rational.specs.Rational.{ℚ}
-use Rattle.exact_matrix.specs.EliminationAnswers.{row_of_pivot}
+use Rattle.elimination_law.specs.Answers.{row_of_pivot}
 use Rattle.exact_matrix.specs.State.{lines}
 use Rattle.exact_matrix.proofs.answers.place_of_pivot.Given as goal
 

@@ -1,5 +1,5 @@
 use Rattle.std.proofs.Common.{◌≡◌, ◌-◌, ◌++◌, map}
-use Rattle.exact_matrix.specs.EliminationAnswers.{solution_from}
+use Rattle.elimination_law.specs.Answers.{solution_from}
 use Rattle.exact_matrix.specs.State.{state}
 use Rattle.exact_matrix.proofs.answers.solution.Given as goal
 

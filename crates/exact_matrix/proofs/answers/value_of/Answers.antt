@@ -1,5 +1,5 @@
 use Rattle.std.proofs.Common.{sym, ap, ◌∙◌}
-use Rattle.exact_matrix.specs.EliminationAnswers.{entry_in}
+use Rattle.elimination_law.specs.Answers.{entry_in}
 use Rattle.exact_matrix.specs.Grid.{row_at}
 use Rattle.exact_matrix.specs.State.{values}
 use Rattle.exact_matrix.proofs.Assembled.{held_pivot}

@@ -1,5 +1,5 @@
 use Rattle.std.proofs.Common.{map, ap, ◌∙◌, arith}
-use Rattle.exact_matrix.specs.EliminationAnswers.{invert_rows}
+use Rattle.elimination_law.specs.Answers.{invert_rows}
 use Rattle.exact_matrix.specs.State.{values}
 use Rattle.exact_matrix.proofs.Assembled.{joined_more, invert_rows_get, invert_assembled}
 use Rattle.exact_matrix.proofs.assembly.invert_rows.Goals as goal

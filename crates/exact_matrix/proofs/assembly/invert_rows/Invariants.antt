@@ -1,5 +1,5 @@
 use Rattle.std.proofs.Common.{◌≡◌, map, take}
-use Rattle.exact_matrix.specs.EliminationAnswers.{invert_rows}
+use Rattle.elimination_law.specs.Answers.{invert_rows}
 use Rattle.exact_matrix.specs.State.{values}
 use Rattle.exact_matrix.specs.Systems.{joined}
 use Rattle.exact_matrix.proofs.assembly.invert_rows.Given as goal

@@ -1,5 +1,5 @@
 use Rattle.std.proofs.Common.{map, ap, ◌∙◌, arith}
-use Rattle.exact_matrix.specs.EliminationAnswers.{solve_rows}
+use Rattle.elimination_law.specs.Answers.{solve_rows}
 use Rattle.exact_matrix.specs.State.{values}
 use Rattle.exact_matrix.proofs.Assembled.{joined_more, solve_rows_get, solve_assembled}
 use Rattle.exact_matrix.proofs.assembly.solve_rows.Goals as goal

@@ -2,7 +2,7 @@ use Rattle.std.proofs.Common.{List, sym, subst}
 use Rattle.std.specs.Prelude.{unsigned_abs, Result}
 use Rattle.std.proofs.lemmas.Result.{err_from_is_err_and}
 use Rattle.frac_core.specs.declared.fractions.Refused.{Refused}
-use Rattle.exact_matrix.specs.Elimination.{Line}
+use Rattle.elimination_law.specs.Elimination.{Line}
 use Rattle.exact_matrix.specs.Grid.{row_at}
 use Rattle.frac_core.specs.Calculated.{Leaves}
 use Rattle.exact_matrix.specs.State.{state}

@@ -1,6 +1,6 @@
 use Rattle.std.proofs.Common.{◌≡◌, ◌-◌, length}
 use Rattle.std.specs.Prelude.{unsigned_abs}
-use Rattle.exact_matrix.specs.EliminationCalculation.{eliminated_from_in}
+use Rattle.elimination_law.specs.Calculation.{eliminated_from_in}
 use Rattle.exact_matrix.specs.State.{state, IsSameShape}
 use Rattle.exact_matrix.proofs.elimination.eliminate.Given as goal
 

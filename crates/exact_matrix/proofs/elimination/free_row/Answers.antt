@@ -4,8 +4,8 @@ use Rattle.rational.specs.Rational.{ℚ, zero_ℚ}
 use Rattle.rational.specs.Order.{same_fields}
 use Rattle.frac_core.specs.declared.fractions.Refused.{Refused}
 use Rattle.frac_core.specs.Row.{row_less}
-use Rattle.exact_matrix.specs.Elimination.{Line}
-use Rattle.exact_matrix.specs.EliminationCalculation.{with_entries}
+use Rattle.elimination_law.specs.Elimination.{Line}
+use Rattle.elimination_law.specs.Calculation.{with_entries}
 use Rattle.exact_matrix.specs.Grid.{row_at}
 use Rattle.frac_core.specs.Calculated.{Leaves}
 use Rattle.exact_matrix.proofs.States.{entry_read, freed_pivot, freed_zero, freed_more, taken_line}

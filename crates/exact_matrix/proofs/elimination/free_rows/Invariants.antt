@@ -1,6 +1,6 @@
 use Rattle.std.proofs.Common.{◌≡◌, map, take, drop}
 use Rattle.std.specs.Prelude.{unsigned_abs}
-use Rattle.exact_matrix.specs.EliminationCalculation.{each_freed_in}
+use Rattle.elimination_law.specs.Calculation.{each_freed_in}
 use Rattle.exact_matrix.specs.State.{state, IsSameShape}
 use Rattle.exact_matrix.proofs.States.{append_lines}
 use Rattle.exact_matrix.proofs.elimination.free_rows.Given as goal

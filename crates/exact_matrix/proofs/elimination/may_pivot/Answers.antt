@@ -3,7 +3,7 @@ use Rattle.std.specs.Prelude.{not, ◌&&◌}
 use Rattle.rational.specs.Rational.{zero_ℚ}
 use Rattle.rational.specs.Order.{same_fields}
 use Rattle.rational.specs.Sums.{entry}
-use Rattle.exact_matrix.specs.Elimination.{is_unused}
+use Rattle.elimination_law.specs.Elimination.{is_unused}
 use Rattle.exact_matrix.specs.Grid.{row_at}
 use Rattle.exact_matrix.proofs.States.{may_unused, may_used, entry_read}
 use Rattle.exact_matrix.proofs.elimination.may_pivot.Goals as goal

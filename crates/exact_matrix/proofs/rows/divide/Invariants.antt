@@ -1,7 +1,7 @@
 use Rattle.std.proofs.Common.{◌≡◌, map, take, drop}
 use Rattle.std.specs.Prelude.{unsigned_abs}
 use Rattle.frac_core.proofs.RowLemmas.{append_row}
-use Rattle.exact_matrix.specs.EliminationCalculation.{divided_in}
+use Rattle.elimination_law.specs.Calculation.{divided_in}
 use Rattle.exact_matrix.proofs.rows.divide.Given as goal
 
 abbrev pub invariant-loop-i : goal.invariant-loop-i

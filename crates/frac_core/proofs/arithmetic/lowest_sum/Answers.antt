@@ -1,7 +1,8 @@
-use Rattle.std.proofs.Common.{Some, rules, FitsSigned, refl, sym}
+use Rattle.std.proofs.Common.{Some, rules, FitsSigned, refl, sym, ap, ◌∙◌}
 use Rattle.std.proofs.Math.Nat.{dvd_trans}
 use Rattle.std.specs.Int.{w128}
 use Rattle.std.proofs.lemmas.Int.{to_z-of_z}
+use Rattle.rational.specs.Divisors.{gcd_of}
 use Rattle.rational.specs.Rational.{◌+ℚ◌}
 use Rattle.frac_core.specs.Parts.{PartsOf}
 use Rattle.frac_core.proofs.Held.{PartsOf-cross, divides_left, divides_right}
@@ -18,11 +19,11 @@ size_quotient-requires-clause-divides c =
 
 parts : (c : After-checked_mul-den) → PartsOf (c.args.p +ℚ c.args.q) (Some c.quotient-num.result) c.checked_mul-den.result
 parts c =
-    let ft : FitsSigned w128 c.args.top = search rules in
+    let ft = c.ranges.top in
     let a = simp to_z-of_z at c.unsigned_abs.ensures.value in
     let eu = simp to_z-of_z at c.quotient-num.ensures in
     PartsOf-cross c.args.p c.args.q c.args.shared c.args.left c.gcd-still_shared.result c.args.top c.quotient-num.result c.checked_mul-den.result
-    c.requires.shared c.requires.left c.requires.top (cc) eu (rw (c.size_quotient.ensures, c.bottom.ensures.value) at c.checked_mul-den.ensures)
+    c.requires.shared c.requires.left c.requires.top (c.gcd-still_shared.ensures.value ∙ ap (λ n. gcd_of n c.args.shared) a) eu (rw (c.size_quotient.ensures, c.bottom.ensures.value) at c.checked_mul-den.ensures)
 
 pub from_lowest-requires : goal.from_lowest-requires
 from_lowest-requires c =

@@ -1,5 +1,5 @@
 use Rattle.std.proofs.Common.{sym}
-use Rattle.mps_lines.proofs.Words.{words_of}
+use Rattle.mps_fields.proofs.Words.{words_of}
 use Rattle.mps_lines.proofs.taking.take_shown.Goals as goal
 
 pub take_content-requires-clause-words : goal.take_content-requires-clause-words

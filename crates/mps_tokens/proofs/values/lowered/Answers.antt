@@ -1,6 +1,6 @@
 use Rattle.std.proofs.Common.{◌≡◌, ◌-◌, sym, ap, ◌∙◌}
 use Rattle.rational.specs.Rational.{fraction}
-use Rattle.frac_core.specs.Signed.{signed}
+use Rattle.word_arithmetic.specs.Signed.{signed}
 use Rattle.mps_tokens.specs.Numbers.{fitted}
 use Rattle.mps_tokens.proofs.PowerValues.{too_fine, lowered_twice, whole_some}
 use Rattle.mps_tokens.proofs.values.lowered.Goals as goal

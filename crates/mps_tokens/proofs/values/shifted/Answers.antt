@@ -1,6 +1,6 @@
 use Rattle.std.proofs.Common.{◌≡◌, ◌*◌, ◌-◌, ◌^◌, sym, ap, ◌∙◌, arith, refl, ℕ}
 use Rattle.rational.specs.Rational.{fraction}
-use Rattle.frac_core.specs.Signed.{signed}
+use Rattle.word_arithmetic.specs.Signed.{signed}
 use Rattle.mps_tokens.specs.Numbers.{fitted}
 use Rattle.mps_tokens.proofs.PowerValues.{shift_up, shift_down, whole_fits, whole_past}
 use Rattle.mps_tokens.proofs.values.shifted.Goals as goal

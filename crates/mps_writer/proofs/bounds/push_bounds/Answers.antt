@@ -1,6 +1,6 @@
 use Rattle.std.specs.Prelude.{codes, []}
-use Rattle.mps_writer.specs.Canonical.{column_name, bounds_at, bound_lines}
-use Rattle.mps_writer.proofs.LineLemmas.{section_more}
+use Rattle.mps_writer_law.specs.Canonical.{column_name, bounds_at, bound_lines}
+use Rattle.mps_writer_law.proofs.LineLemmas.{section_more}
 use Rattle.mps_writer.proofs.bounds.push_bounds.Goals as goal
 
 pub loop-j-preserved : goal.loop-j-preserved

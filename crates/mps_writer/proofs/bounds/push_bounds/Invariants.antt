@@ -1,8 +1,8 @@
 -- the bounds so far are there
 use Rattle.std.proofs.Common.{◌≡◌, ◌++◌}
 use Rattle.std.specs.Prelude.{codes}
-use Rattle.mps_writer.specs.Lines.{lines_text, section, has_lines, each}
-use Rattle.mps_writer.specs.Canonical.{column_name, bounds_at, bound_lines}
+use Rattle.mps_writer_law.specs.Lines.{lines_text, section, has_lines, each}
+use Rattle.mps_writer_law.specs.Canonical.{column_name, bounds_at, bound_lines}
 use Rattle.mps_writer.proofs.bounds.push_bounds.Given as goal
 
 abbrev pub invariant-loop-j : goal.invariant-loop-j

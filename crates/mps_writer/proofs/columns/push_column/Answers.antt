@@ -1,5 +1,5 @@
-use Rattle.mps_writer.specs.Canonical.{entry_lines}
-use Rattle.mps_writer.proofs.LineLemmas.{lines_more}
+use Rattle.mps_writer_law.specs.Canonical.{entry_lines}
+use Rattle.mps_writer_law.proofs.LineLemmas.{lines_more}
 use Rattle.mps_writer.proofs.columns.push_column.Goals as goal
 
 pub loop-i-preserved : goal.loop-i-preserved

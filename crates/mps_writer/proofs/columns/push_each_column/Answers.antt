@@ -1,5 +1,5 @@
-use Rattle.mps_writer.specs.Canonical.{column_lines}
-use Rattle.mps_writer.proofs.LineLemmas.{lines_more}
+use Rattle.mps_writer_law.specs.Canonical.{column_lines}
+use Rattle.mps_writer_law.proofs.LineLemmas.{lines_more}
 use Rattle.mps_writer.proofs.columns.push_each_column.Goals as goal
 
 pub loop-j-preserved : goal.loop-j-preserved

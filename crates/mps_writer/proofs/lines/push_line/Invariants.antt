@@ -1,7 +1,7 @@
 -- the fields so far are there
 use Rattle.std.proofs.Common.{◌≡◌, ◌++◌, map}
 use Rattle.std.specs.Prelude.{take}
-use Rattle.mps_writer.specs.Lines.{data_line}
+use Rattle.mps_writer_law.specs.Lines.{data_line}
 use Rattle.mps_writer.specs.Fields.{field_text}
 use Rattle.mps_writer.proofs.lines.push_line.Given as goal
 

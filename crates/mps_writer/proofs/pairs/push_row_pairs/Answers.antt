@@ -1,7 +1,7 @@
 use Rattle.std.proofs.Common.{arith, ◌≡◌, ◌+◌, ◌-◌}
 use Rattle.std.specs.Prelude.{codes, length}
-use Rattle.mps_writer.specs.Canonical.{pair_lines}
-use Rattle.mps_writer.proofs.LineLemmas.{behind_more, all_behind}
+use Rattle.mps_writer_law.specs.Canonical.{pair_lines}
+use Rattle.mps_writer_law.proofs.LineLemmas.{behind_more, all_behind}
 use Rattle.mps_writer.proofs.pairs.push_row_pairs.Goals as goal
 
 pub loop-d-preserved : goal.loop-d-preserved

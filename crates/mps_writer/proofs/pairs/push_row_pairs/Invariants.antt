@@ -1,8 +1,8 @@
 -- the entries so far are there
 use Rattle.std.proofs.Common.{◌≡◌, ◌+◌, ◌++◌}
 use Rattle.std.specs.Prelude.{codes, ◌||◌}
-use Rattle.mps_writer.specs.Lines.{lines_text, behind, has_lines, each}
-use Rattle.mps_writer.specs.Canonical.{pair_lines}
+use Rattle.mps_writer_law.specs.Lines.{lines_text, behind, has_lines, each}
+use Rattle.mps_writer_law.specs.Canonical.{pair_lines}
 use Rattle.mps_writer.proofs.pairs.push_row_pairs.Given as goal
 
 abbrev pub invariant-loop-d : goal.invariant-loop-d

@@ -1,5 +1,5 @@
-use Rattle.mps_writer.specs.Canonical.{row_line}
-use Rattle.mps_writer.proofs.LineLemmas.{line_more}
+use Rattle.mps_writer_law.specs.Canonical.{row_line}
+use Rattle.mps_writer_law.proofs.LineLemmas.{line_more}
 use Rattle.mps_writer.proofs.rows.push_rows.Goals as goal
 
 pub loop-i-preserved : goal.loop-i-preserved

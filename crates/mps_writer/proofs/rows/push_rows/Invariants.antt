@@ -1,7 +1,7 @@
 -- the rows so far are there
 use Rattle.std.proofs.Common.{◌≡◌, ◌++◌, [], ◌∷◌}
-use Rattle.mps_writer.specs.Lines.{lines_text, each}
-use Rattle.mps_writer.specs.Canonical.{row_line}
+use Rattle.mps_writer_law.specs.Lines.{lines_text, each}
+use Rattle.mps_writer_law.specs.Canonical.{row_line}
 use Rattle.mps_writer.proofs.rows.push_rows.Given as goal
 
 abbrev pub invariant-loop-i : goal.invariant-loop-i

@@ -1,8 +1,8 @@
 -- the ranges so far are there
 use Rattle.std.proofs.Common.{◌≡◌, ◌++◌}
 use Rattle.std.specs.Prelude.{codes}
-use Rattle.mps_writer.specs.Lines.{lines_text, section, has_lines, each}
-use Rattle.mps_writer.specs.Canonical.{row_name, sides_at, width, range_lines}
+use Rattle.mps_writer_law.specs.Lines.{lines_text, section, has_lines, each}
+use Rattle.mps_writer_law.specs.Canonical.{row_name, sides_at, width, range_lines}
 use Rattle.mps_writer.proofs.sides.push_ranges.Given as goal
 
 abbrev pub invariant-loop-i : goal.invariant-loop-i

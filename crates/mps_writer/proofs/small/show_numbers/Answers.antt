@@ -1,4 +1,4 @@
-use Rattle.mps_writer.proofs.SmallNumbers.{all_small}
+use Rattle.mps_writer_law.proofs.SmallNumbers.{all_small}
 use Rattle.mps_writer.proofs.small.show_numbers.Goals as goal
 
 pub returns-clause-numbers : goal.returns-clause-numbers

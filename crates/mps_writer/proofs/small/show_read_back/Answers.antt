@@ -1,4 +1,4 @@
-use Rattle.mps_writer.proofs.FileBack.{text_back}
+use Rattle.mps_writer_law.proofs.FileBack.{text_back}
 use Rattle.mps_writer.proofs.small.show_read_back.Goals as goal
 
 pub returns : goal.returns

@@ -2,8 +2,9 @@
 use Rattle.std.proofs.Common.{ℕ, ◌<◌}
 use Rattle.rational.specs.Rational.{Fits}
 use Rattle.frac_core.specs.Parts.{max_part}
-use Rattle.program_law.specs.Vectors.{at, row_at}
+use Rattle.rational.specs.Sums.{entry}
+use Rattle.rational.specs.Vectors.{row_at}
 use Rattle.mps_writer.proofs.small.show_row.Given as goal
 
 abbrev pub invariant-loop-j : goal.invariant-loop-j
-invariant-loop-j l = (k : ℕ) → k < l.j → Fits max_part (at (row_at l.p.entries l.i) k)
+invariant-loop-j l = (k : ℕ) → k < l.j → Fits max_part (entry (row_at l.p.entries l.i) k)

@@ -1,6 +1,6 @@
 use Rattle.std.specs.Prelude.{codes}
-use Rattle.mps_writer.specs.Canonical.{rows_lines, columns_lines, right_sides_lines, ranges_lines, bounds_lines, pairs_lines}
-use Rattle.mps_writer.proofs.LineLemmas.{whole_text}
+use Rattle.mps_writer_law.specs.Canonical.{rows_lines, columns_lines, right_sides_lines, ranges_lines, bounds_lines, pairs_lines}
+use Rattle.mps_writer_law.proofs.LineLemmas.{whole_text}
 use Rattle.mps_writer.proofs.writing.push_program.Goals as goal
 
 pub returns : goal.returns

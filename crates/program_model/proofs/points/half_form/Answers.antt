@@ -1,4 +1,4 @@
-use Rattle.program_model.proofs.ValueLemmas.{two_differs}
+use Rattle.program_law.proofs.Numbers.{two_differs}
 use Rattle.program_model.proofs.points.half_form.Goals as goal
 
 pub quotient-requires : goal.quotient-requires

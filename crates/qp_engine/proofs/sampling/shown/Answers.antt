@@ -1,5 +1,5 @@
 use Rattle.std.proofs.Common.{ap, ◌∙◌}
-use Rattle.qp_engine.specs.Solving.{told_by}
+use Rattle.qp_answers.specs.Outcomes.{told_by}
 use Rattle.qp_engine.proofs.Shown.{only_optimal, least, shown_due, tells_least}
 use Rattle.qp_engine.proofs.sampling.shown.Goals as goal
 

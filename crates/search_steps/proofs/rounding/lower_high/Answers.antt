@@ -1,8 +1,7 @@
 use Rattle.std.proofs.Common.{ap, sym, ◌∙◌, length, ◌++◌, ◌∷◌, [], arith}
 use Rattle.rational.specs.Rounding.{floor_of}
 use Rattle.rational.proofs.Rounding.{IsFloor-floor_of}
-use Rattle.program_law.specs.Region.{Region, cut_high}
-use Rattle.cert_check_law.specs.Tree.{bounds_at}
+use Rattle.program_law.specs.Region.{Region, cut_high, bounds_at}
 use Rattle.branching_law.specs.Paths.{below}
 use Rattle.branching_law.proofs.Trees.{wide}
 use Rattle.search_steps.proofs.Bounded.{lowered, broken, not_whole, numbers_last, number_fits}

@@ -1,8 +1,7 @@
 use Rattle.std.proofs.Common.{ap, sym, ◌∙◌, subst, length, ◌++◌, ◌∷◌, [], arith}
 use Rattle.rational.specs.Rounding.{floor_of}
 use Rattle.rational.proofs.Rounding.{IsFloor-floor_of}
-use Rattle.program_law.specs.Region.{Region, cut_low}
-use Rattle.cert_check_law.specs.Tree.{bounds_at}
+use Rattle.program_law.specs.Region.{Region, cut_low, bounds_at}
 use Rattle.branching_law.specs.Rounding.{IsFractional}
 use Rattle.branching_law.specs.Paths.{above}
 use Rattle.branching_law.proofs.Trees.{wide}

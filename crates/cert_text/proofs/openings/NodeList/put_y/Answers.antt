@@ -1,5 +1,5 @@
-use Rattle.cert_text.specs.Told.{with_y}
-use Rattle.cert_text.proofs.LastOf.{last_changed, none_changed}
+use Rattle.cert_text_law.specs.Told.{with_y}
+use Rattle.cert_text_law.proofs.LastOf.{last_changed, none_changed}
 use Rattle.cert_text.proofs.openings.NodeList.put_y.Goals as goal
 use Rattle.cert_text.proofs.openings.NodeList.put_y.Goals.{in-Some, in_default}
 

@@ -2,7 +2,7 @@ use Rattle.std.proofs.Common.{◌≡◌, ◌≤◌, ◌+◌, ◌-◌, ◌*◌, L
 use Rattle.std.specs.Prelude.{unsigned_abs}
 use Rattle.std.proofs.Math.Nat.{mul-le-mul_right}
 use Rattle.frac_core.specs.Row.{IsRow}
-use Rattle.exact_matrix.specs.EliminationCalculation.{divided_in}
+use Rattle.elimination_law.specs.Calculation.{divided_in}
 use Rattle.std.specs.Vec.{with_items}
 use borrow.Rule.Slice.PartMut.{put_mid}
 use Rattle.exact_matrix.specs.Grid.{with_row, row_at, rows_of}

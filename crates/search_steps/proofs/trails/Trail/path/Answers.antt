@@ -1,5 +1,5 @@
 use Rattle.std.proofs.Common.{arith}
-use Rattle.program_model.specs.Descents.{cuts_of}
+use Rattle.program_regions.specs.Descents.{cuts_of}
 use Rattle.search_steps.proofs.Ways.{path_more, path_all}
 use Rattle.search_steps.proofs.trails.Trail.path.Goals as goal
 

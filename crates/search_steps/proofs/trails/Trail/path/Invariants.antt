@@ -1,5 +1,5 @@
 use Rattle.std.proofs.Common.{◌≡◌, ◌++◌, map, take}
-use Rattle.program_model.specs.Descents.{cuts_of}
+use Rattle.program_regions.specs.Descents.{cuts_of}
 use Rattle.search_steps.proofs.trails.Trail.path.Given as goal
 
 -- the path of the cuts so far

@@ -1,0 +1,5 @@
+pub mod Lands
+pub mod ItemFields
+pub mod LinesRead
+pub mod LinesBack
+pub mod Counts

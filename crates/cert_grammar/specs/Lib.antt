@@ -1,0 +1,6 @@
+pub mod Text
+pub mod Grammar
+pub mod Places
+pub mod Faults
+pub mod Items
+pub mod Writable

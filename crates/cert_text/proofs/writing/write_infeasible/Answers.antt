@@ -1,4 +1,0 @@
-use Rattle.cert_text.proofs.writing.write_infeasible.Goals as goal
-
-pub write_tree_to_end-requires : goal.write_tree_to_end-requires
-write_tree_to_end-requires c = c.requires.fitting.0.nodes_fit

@@ -1,0 +1,14 @@
+pub mod Worked
+pub mod LastOf
+pub mod Histories
+pub mod Readings
+pub mod TextsRead
+pub mod ItemRuns
+pub mod ItemTells
+pub mod ReadBack
+pub mod Accepts
+pub mod Shown
+pub mod ShownRuns
+pub mod TextBack
+pub mod ToldFits
+pub mod Fronts

@@ -1,0 +1,12 @@
+pub mod Worked
+pub mod Lines
+pub mod Calculated
+pub mod Kernel
+pub mod Pivots
+pub mod Vectors
+pub mod Tailed
+pub mod Solved
+pub mod Free
+pub mod Inverted
+pub mod Facts
+pub mod Without

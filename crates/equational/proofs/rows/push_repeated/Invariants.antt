@@ -1,6 +1,0 @@
-use Rattle.std.proofs.Common.{◌≡◌, ◌++◌, replicate}
-use Rattle.equational.proofs.rows.push_repeated.Given as goal
-
--- so many were appended
-abbrev pub invariant-loop : goal.invariant-loop
-invariant-loop l = l.entries.items ≡ l.initial.entries.items ++ replicate l.counter l.x

@@ -1,0 +1,7 @@
+pub mod Chains
+pub mod Appended
+pub mod Gathered
+pub mod Places
+pub mod Columns
+pub mod Pairs
+pub mod All

@@ -1,5 +1,0 @@
-use Rattle.exact_matrix.proofs.EliminationWithout.{rows_without, operations_without, invert_lines_are, pivots_are, invert_operations_are}
-use Rattle.exact_matrix.proofs.laws.columns_beside_act_alone.Goals as goal
-
-pub returns : goal.returns
-returns c = record { lines = rows_without; operations = operations_without; invert_lines = invert_lines_are; invert_pivots = pivots_are; invert_operations = invert_operations_are }

@@ -1,5 +1,0 @@
-use Rattle.exact_matrix.proofs.EliminationFacts.{all_combined, same_products, same_solutions}
-use Rattle.exact_matrix.proofs.laws.elimination_combines_rows.Goals as goal
-
-pub returns : goal.returns
-returns c = record { combined = all_combined; kernel = same_products; solutions = same_solutions }

@@ -1,6 +1,0 @@
-use Rattle.std.proofs.Common.{◌^◌, ◌+◌, ◌*◌}
-use Rattle.std.specs.Int.{◌∣◌}
-use Rattle.frac_core.proofs.inverses.negative_inverse.Given as goal
-
-abbrev pub invariant-loop : goal.invariant-loop
-invariant-loop l = 2 ^ (2 ^ l.counter) ∣ l.fn.odd * l.inverse + 1

@@ -1,0 +1,6 @@
+pub mod RowLemmas
+pub mod RowsPushed
+pub mod RowsFound
+pub mod Marks
+pub mod Tellings
+pub mod Sound

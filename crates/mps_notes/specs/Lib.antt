@@ -1,0 +1,5 @@
+pub mod Names
+pub mod Rows
+pub mod Entries
+pub mod Told
+pub mod Notes

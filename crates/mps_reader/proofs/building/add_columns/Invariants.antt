@@ -1,6 +1,0 @@
-use Rattle.std.proofs.Common.{◌≡◌}
-use Rattle.mps_reader.specs.Built.{columns_built}
-use Rattle.mps_reader.proofs.building.add_columns.Given as goal
-
-abbrev pub invariant-loop-column : goal.invariant-loop-column
-invariant-loop-column l = l.program ≡ columns_built l.draft l.column

@@ -1,0 +1,8 @@
+pub mod Twice
+pub mod Puts
+pub mod TestChains
+pub mod EntryLines
+pub mod SideLines
+pub mod PairLines
+pub mod RowLines
+pub mod BoundLines

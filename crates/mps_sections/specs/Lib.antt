@@ -1,0 +1,3 @@
+pub mod Twice
+pub mod Placed
+pub mod Steps

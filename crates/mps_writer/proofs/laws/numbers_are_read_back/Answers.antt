@@ -1,5 +1,0 @@
-use Rattle.mps_writer.proofs.Numerals.{number_back}
-use Rattle.mps_writer.proofs.laws.numbers_are_read_back.Goals as goal
-
-pub returns : goal.returns
-returns c = λ q h. number_back q h

@@ -1,5 +1,0 @@
-use Rattle.mps_writer.proofs.FileBack.{text_back}
-use Rattle.mps_writer.proofs.laws.text_is_read_back.Goals as goal
-
-pub returns : goal.returns
-returns c = λ p good small within. text_back p good small within

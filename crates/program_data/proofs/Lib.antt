@@ -1,0 +1,6 @@
+mod Found
+pub mod Outcomes
+mod Rows
+mod Padded
+mod Changed
+mod KeptLemmas

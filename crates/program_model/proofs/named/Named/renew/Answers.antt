@@ -1,5 +1,0 @@
-use Rattle.program_model.proofs.NamedLemmas.{named_renewed}
-use Rattle.program_model.proofs.named.Named.renew.Goals as goal
-
-pub returns : goal.returns
-returns g c = rw (← c.self.view_is) (named_renewed c.self.inside.entries.entries c.args.place c.args.thing)

@@ -1,8 +1,0 @@
-use Rattle.std.proofs.Common.{sym}
-use Rattle.program_model.proofs.NamedLemmas.{thing_found}
-use Rattle.program_model.proofs.named.Named.thing.Goals as goal
-
-pub returns : goal.returns
-returns g c =
-    let found = rw c.unwrap.ensures at c.get_index.ensures.entry in
-    rw (← c.self.view_is) (thing_found c.self.inside.entries.entries c.args.place c.unwrap.result.0.now c.unwrap.result.1.now (sym found))

@@ -1,9 +1,0 @@
-use Rattle.std.proofs.Common.{◌<◌, length, subst, sym, ap, ◌∙◌}
-use Rattle.program_law.specs.Region.{Region, cut_high}
-use Rattle.program_model.proofs.RegionLemmas.{high_is}
-use Rattle.program_model.proofs.regions.Region.cut_high.Goals as goal
-
-pub returns : goal.returns
-returns c =
-    let there = subst (λ (r : Region). c.args.j < length r) (sym c.self.view_is) c.requires in
-    rw c.smaller-bounds.ensures (high_is c.self.inside.bounds.items c.args.j c.args.k c.index_mut-bounds.result.now there c.index_mut-bounds.ensures.value) ∙ ap (λ (r : Region). cut_high r c.args.j c.args.k) c.self.view_is

@@ -1,0 +1,5 @@
+pub mod Said
+pub mod Codes
+pub mod Withheld
+pub mod Answers
+pub mod Outcomes

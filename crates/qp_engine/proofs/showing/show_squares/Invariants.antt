@@ -1,8 +1,0 @@
-use Rattle.std.proofs.Common.{drop}
-use Rattle.std.specs.List.{AllByRecursion}
-use Rattle.cert_text.specs.Writable.{SquareFits}
-use Rattle.qp_engine.proofs.showing.show_squares.Given as goal
-
--- the rest of them suffices
-abbrev pub invariant-loop-k : goal.invariant-loop-k
-invariant-loop-k l = AllByRecursion SquareFits (drop l.k l.squares) → AllByRecursion SquareFits l.squares

@@ -1,6 +1,0 @@
-use Rattle.cert_text.specs.Writable.{NodeFits}
-use Rattle.qp_engine.proofs.SmallNumbers.{one_shown}
-use Rattle.qp_engine.proofs.showing.show_tree.Goals as goal
-
-pub loop-k-preserved : goal.loop-k-preserved
-loop-k-preserved c = one_shown NodeFits c.args.tree.now c.loop-k.k c.node.result.now c.node.ensures c.show_node.ensures c.loop-k.invariant

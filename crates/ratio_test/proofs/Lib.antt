@@ -1,0 +1,3 @@
+mod Numbers
+mod CrossProducts
+pub mod Ratios

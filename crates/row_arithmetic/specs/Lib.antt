@@ -1,0 +1,4 @@
+pub mod Rows
+pub mod Multiples
+pub mod Products
+pub mod Crosses

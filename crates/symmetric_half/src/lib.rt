@@ -1,0 +1,6 @@
+//! The upper half of a symmetric matrix, in one piece of memory.
+#![tactic(auto)]
+
+mod half;
+
+pub use half::Half;
