@@ -6,7 +6,7 @@ use Rattle.std.proofs.lemmas.List.{length-map}
 use Rattle.rational.specs.Rational.{ℚ}
 use Rattle.program_law.specs.declared.Square.{Square}
 use Rattle.program_law.specs.Region.{Region, IsCrossedRegion}
-use Rattle.program_law.specs.Program.{Program, IsProgram, bounds}
+use Rattle.program_law.specs.Program.{Program, IsProgram, bounds, most_columns}
 use Rattle.program_law.specs.Columns.{AllWithin}
 use Rattle.certificate_law.specs.declared.Node.{Node}
 use Rattle.certificate_law.specs.declared.Node.TheVariants.{Branch, Bound, Farkas, Cross}
@@ -20,7 +20,7 @@ use Rattle.branching_law.specs.declared.Turn.{Turn}
 use Rattle.branching_law.specs.Paths.{region_of}
 use Rattle.branching_law.specs.Rounding.{IsMarked, IsRounding, under_rounding}
 use Rattle.branching_law.specs.Nodes.{Search, ForBest, ForPoint}
-use Rattle.branching_law.specs.Search.{IsEarned, branches, points_of}
+use Rattle.branching_law.specs.Search.{IsEarned, branches, most_boxes, points_of}
 use Rattle.branching_law.specs.Searching.{IsSearching}
 use Rattle.branching_law.specs.Sizes.{HasNumber, IsBranchNumber}
 use Rattle.branching_law.specs.Found.{Convex, decided, IsFoundOf}
@@ -118,13 +118,17 @@ within_size [] (x ∷ xs) h = absurd h
 within_size (b ∷ bs) [] h = absurd h
 within_size (b ∷ bs) (x ∷ xs) h = ap suc (within_size bs xs h.1)
 
-few_nodes : (count turns nodes all columns boxes : ℕ) → count ≡ all + all + 1 → all ≡ turns + nodes → turns ≤ columns + columns → columns ≤ 128 → nodes ≤ boxes → boxes ≤ 20000
-    → (count < 2 ^ 32) × (all ≤ 20256)
+-- rounding takes at most two branches a column, and a search its budget
+abbrev most_branches : ℕ
+most_branches = most_columns + most_columns + most_boxes
+
+few_nodes : (count turns nodes all columns boxes : ℕ) → count ≡ all + all + 1 → all ≡ turns + nodes → turns ≤ columns + columns → columns ≤ most_columns → nodes ≤ boxes → boxes ≤ most_boxes
+    → (count < 2 ^ 32) × (all ≤ most_branches)
 few_nodes count turns nodes all columns boxes c a t l n b = (omega (arith, c, a, t, l, n, b), omega (arith, c, a, t, l, n, b))
 
-module _ (aim : Search) (p : Program) (bases boxes : ℕ) (is : IsProgram p) (few : boxes ≤ 20000) (turns : List Turn) (nodes : List Node) (o : Option (List ℚ))
+module _ (aim : Search) (p : Program) (bases boxes : ℕ) (is : IsProgram p) (few : boxes ≤ most_boxes) (turns : List Turn) (nodes : List Node) (o : Option (List ℚ))
     (h : IsSearching aim p bases boxes turns nodes [] o) (numbers : AllByRecursion HasNumber nodes) (rounding : AllByRecursion (λ (t : Turn). IsBranchNumber t.k) turns) where
-  sizes : (length (under_rounding turns nodes) < 2 ^ 32) × (branches (under_rounding turns nodes) ≤ 20256)
+  sizes : (length (under_rounding turns nodes) < 2 ^ 32) × (branches (under_rounding turns nodes) ≤ most_branches)
   sizes =
       few_nodes (length (under_rounding turns nodes)) (length turns) (branches nodes) (branches (under_rounding turns nodes)) (length p.columns) boxes
       (one_tree_count (under_rounding turns nodes) (earned_is_one_tree aim p bases turns nodes h.earned)) (branches-under_rounding turns nodes)
@@ -139,15 +143,15 @@ module _ (aim : Search) (p : Program) (bases boxes : ℕ) (is : IsProgram p) (fe
         (rounding_numbers turns nodes rounding numbers);
   }
 
-  few_branches : branch_count (under_rounding turns nodes) ≤ 20256
-  few_branches = subst (λ (n : ℕ). n ≤ 20256) (sym (branches_same (under_rounding turns nodes))) sizes.1
+  few_branches : branch_count (under_rounding turns nodes) ≤ most_branches
+  few_branches = subst (λ (n : ℕ). n ≤ most_branches) (sym (branches_same (under_rounding turns nodes))) sizes.1
 
 point_size : (aim : Search) (p : Program) (bases boxes : ℕ) (is : IsProgram p) (turns : List Turn) (nodes : List Node) (x : List ℚ) → IsSearching aim p bases boxes turns nodes [] (Some x) → IsColumnVector p x
 point_size aim p bases boxes is turns nodes x h =
     within_size (bounds p) x (earned_points p is bases aim turns nodes [] h.earned x (first_is_kept p (points_of nodes) x h.best).among).columns
     ∙ length-map p.columns _
 
-writable : (aim : Search) (p : Program) (bases boxes : ℕ) (is : IsProgram p) (few : boxes ≤ 20000) (squares : List Square) (sum : AreSquaresFor p squares) (turns : List Turn) (nodes : List Node) (o : Option (List ℚ))
+writable : (aim : Search) (p : Program) (bases boxes : ℕ) (is : IsProgram p) (few : boxes ≤ most_boxes) (squares : List Square) (sum : AreSquaresFor p squares) (turns : List Turn) (nodes : List Node) (o : Option (List ℚ))
     → IsSearching aim p bases boxes turns nodes [] o → AllByRecursion HasNumber nodes → AllByRecursion (λ (t : Turn). IsBranchNumber t.k) turns → IsWritable p (decided p squares o (under_rounding turns nodes))
 writable aim p bases boxes is few squares sum turns nodes None h numbers rounding = record {
   fitting = (tree_fits aim p bases boxes is few turns nodes None h numbers rounding, earned_no_bound aim p bases turns nodes [] h.earned h.best);
@@ -176,7 +180,7 @@ certificate_is : (p : Program) (squares : List Square) (o : Option Incumbent) (t
 certificate_is p squares None tree all has e = ap Infeasible e
 certificate_is p squares (Some i) tree all has e = ap₂ (λ (v : ℚ) (ns : List Node). Optimal i.point v squares ns) has e
 
-pub certified : (p : Program) (bases boxes : ℕ) (squares : List Square) (progress : Progress) (way : (aim : Search) × IsOnWay aim p bases boxes false progress) (is : IsProgram p) (few : boxes ≤ 20000) (sum : AreSquaresFor p squares)
+pub certified : (p : Program) (bases boxes : ℕ) (squares : List Square) (progress : Progress) (way : (aim : Search) × IsOnWay aim p bases boxes false progress) (is : IsProgram p) (few : boxes ≤ most_boxes) (sum : AreSquaresFor p squares)
     (o : Option Incumbent) (tree : List Node) → progress.incumbent ≡ o → tree ≡ progress.nodes ++ nodes_behind progress.trail.turns
     → IsFoundOf p (Convex squares) bases boxes (certificate squares o tree) × IsWritable p (certificate squares o tree)
 certified p bases boxes squares progress way is few sum o tree same e =

@@ -16,7 +16,7 @@ use Rattle.search_steps.specs.Trails.{path_of, waiting_of}
 use Rattle.search_steps.specs.Progressing.{HasBegun}
 use Rattle.branching.specs.Rays.{IsNoRay}
 
-pub no_ray_here : (p : Program) (bases boxes : ℕ) (progress : Progress) (answer : Relaxed) → IsProgram p → HasBegun p bases boxes true progress → IsRelaxedOf p progress.trail.walk.region bases answer
+pub no_ray_here : (p : Program) (bases boxes : ℕ) (progress : Progress) (answer : Relaxed) → IsProgram p → HasBegun ForBest p bases boxes true progress → IsRelaxedOf p progress.trail.walk.region bases answer
     → IsNoRay answer
 no_ray_here p bases boxes progress (Crossed j) is h a = tt
 no_ray_here p bases boxes progress (Empty y) is h a = tt

@@ -15,8 +15,7 @@ use Rattle.convexity.specs.declared.Curvature.{Curvature}
 use Rattle.convexity.specs.declared.Curvature.TheVariants.{Squares, Negative}
 use Rattle.convexity.specs.ReductionCalculation.{squares_of}
 use Rattle.convexity.proofs.Answered.{right_is, width_is}
-use Rattle.quad_solve_law.specs.Sites.{AtForm, AtFeasible, AtRay, AtFace, AtPrice}
-use Rattle.quad_solve_law.specs.Sites as calculation
+use Rattle.quad_solve_law.specs.Sites.{RegionSite, AtForm, AtFeasible, AtRay, AtFace, AtPrice}
 use Rattle.quad_solve.specs.declared.sites.Site.{Site}
 use Rattle.quad_solve.specs.declared.sites.Site.TheVariants.{Form, Chain, Face}
 use Rattle.quad_solve.specs.declared.sites.Task.TheVariants.{Feasible, Ray, Price}
@@ -30,18 +29,18 @@ use Rattle.branching_law.proofs.OneStop.{one_spent_site, no_tree_beside, no_cert
 use Rattle.branching.specs.declared.stops.DecideStop.{DecideStop}
 use Rattle.branching.specs.declared.stops.DecideStop.TheVariants.{Memory, Bases, Boxes, Past}
 use Rattle.branching.specs.Decided.{IsReducedBy, IsFound}
-use Rattle.branching.specs.Stops.{IsSpentAt, IsStopOf, IsOfBudget}
+use Rattle.branching.specs.Stops.{IsSpentAt, IsDecideStopOf, IsOfBudget}
 
 -- ---- names of sites
 
-some_name : (place : calculation.Site) → (site : Site) × IsNamed place site
+some_name : (place : RegionSite) → (site : Site) × IsNamed place site
 some_name AtForm = (Form, refl)
 some_name (AtFeasible b) = (Chain Feasible [] b.columns, refl)
 some_name (AtRay b) = (Chain Ray [] b.columns, refl)
 some_name (AtFace z) = (Face z, refl)
 some_name (AtPrice z b) = (Chain Price z b.columns, refl)
 
-one_name : (place : calculation.Site) (site other : Site) → IsNamed place site → IsNamed place other → site ≡ other
+one_name : (place : RegionSite) (site other : Site) → IsNamed place site → IsNamed place other → site ≡ other
 one_name AtForm site other h k = h ∙ sym k
 one_name (AtFeasible b) site other h k = h ∙ sym k
 one_name (AtRay b) site other h k = h ∙ sym k
@@ -77,7 +76,7 @@ module _ (p : Program) (is : IsProgram p) (bases boxes : ℕ) where
 
   -- ---- one ending
 
-  pub some_ending : (r : Reduced) → IsReducedBy p r → ((c : Certificate) × IsFound p bases boxes c) ⊎ ((stop : DecideStop) × IsOfBudget stop × IsStopOf p bases boxes stop)
+  pub some_ending : (r : Reduced) → IsReducedBy p r → ((c : Certificate) × IsFound p bases boxes c) ⊎ ((stop : DecideStop) × IsOfBudget stop × IsDecideStopOf p bases boxes stop)
   some_ending (Curved v) h = inl (NotConvex v, record { reduced = Curved v; reduction = h; found = refl })
   some_ending (Convex squares) h =
       let r = some_rounding p in
@@ -94,17 +93,17 @@ module _ (p : Program) (is : IsProgram p) (bases boxes : ℕ) where
       certificate_is_one p k.reduced bases bases boxes boxes c d is (right k.reduced k.reduction)
       (subst (λ (r : Reduced). IsFoundOf p r bases boxes c) (one_reduction h.reduced k.reduced h.reduction k.reduction) h.found) k.found
 
-  site_or_tree : (path : List Turn) (site : Site) (n : ℕ) → IsSpentAt p bases boxes path site → IsStopOf p bases boxes (Boxes n) → ⊥
+  site_or_tree : (path : List Turn) (site : Site) (n : ℕ) → IsSpentAt p bases boxes path site → IsDecideStopOf p bases boxes (Boxes n) → ⊥
   site_or_tree path site n h k = no_tree_beside p is h.spent.reached.comes.earned.convex bases boxes path h.place h.spent k.1
 
-  pub one_stop : (one other : DecideStop) → IsOfBudget one → IsOfBudget other → IsStopOf p bases boxes one → IsStopOf p bases boxes other → one ≡ other
+  pub one_stop : (one other : DecideStop) → IsOfBudget one → IsOfBudget other → IsDecideStopOf p bases boxes one → IsDecideStopOf p bases boxes other → one ≡ other
   one_stop Memory other b c h k = absurd b
   one_stop (Past path site r) other b c h k = absurd b
   one_stop (Bases path site) Memory b c h k = absurd c
   one_stop (Bases path site) (Past way place r) b c h k = absurd c
   one_stop (Bases path site) (Bases way place) b c h k =
       let e = one_spent_site p is h.spent.reached.comes.earned.convex bases boxes path way h.place k.place h.spent k.spent in
-      let n : site ≡ place = one_name k.place site place (subst (λ (s : calculation.Site). IsNamed s site) e.1 h.named) k.named in
+      let n : site ≡ place = one_name k.place site place (subst (λ (s : RegionSite). IsNamed s site) e.1 h.named) k.named in
       ap (λ (w : List Turn). Bases w site) e.0 ∙ ap (Bases way) n
   one_stop (Bases path site) (Boxes n) b c h k = absurd (site_or_tree path site n h k)
   one_stop (Boxes n) Memory b c h k = absurd c
@@ -112,7 +111,7 @@ module _ (p : Program) (is : IsProgram p) (bases boxes : ℕ) where
   one_stop (Boxes n) (Bases way place) b c h k = absurd (site_or_tree way place n k h)
   one_stop (Boxes n) (Boxes m) b c h k = ap Boxes (h.0 ∙ sym k.0)
 
-  beside : (r : Reduced) → IsReducedBy p r → (c : Certificate) → IsFoundOf p r bases boxes c → (stop : DecideStop) → IsOfBudget stop → IsStopOf p bases boxes stop → ⊥
+  beside : (r : Reduced) → IsReducedBy p r → (c : Certificate) → IsFoundOf p r bases boxes c → (stop : DecideStop) → IsOfBudget stop → IsDecideStopOf p bases boxes stop → ⊥
   beside r e c h Memory b k = b
   beside r e c h (Past path site q) b k = b
   beside (Convex squares) e c h (Bases path site) b k = no_certificate_at_site p is k.spent.reached.comes.earned.convex bases squares boxes c path k.place k.spent h
@@ -120,5 +119,5 @@ module _ (p : Program) (is : IsProgram p) (bases boxes : ℕ) where
   beside (Curved v) e c h (Bases path site) b k = not_curved v e k.spent.reached.comes.earned.convex
   beside (Curved v) e c h (Boxes n) b k = not_curved v e k.1.earned.convex
 
-  pub not_both : (c : Certificate) (stop : DecideStop) → IsFound p bases boxes c → IsOfBudget stop → IsStopOf p bases boxes stop → ⊥
+  pub not_both : (c : Certificate) (stop : DecideStop) → IsFound p bases boxes c → IsOfBudget stop → IsDecideStopOf p bases boxes stop → ⊥
   not_both c stop h b k = beside h.reduced h.reduction c h.found stop b k

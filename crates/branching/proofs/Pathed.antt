@@ -17,7 +17,7 @@ use Rattle.branching_law.specs.Reached.{IsReachedPath}
 use Rattle.branching_law.proofs.NodeSizes.{marked_column}
 use Rattle.branching.specs.declared.stops.DecideStop.{DecideStop}
 use Rattle.branching.specs.declared.stops.DecideStop.TheVariants.{Memory, Bases, Boxes, Past}
-use Rattle.branching.specs.Stops.{IsStopOf, IsPathIn, HasPathIn}
+use Rattle.branching.specs.Stops.{IsDecideStopOf, IsPathIn, HasPathIn}
 
 with_more : (p : Program) (path more : List Turn) → IsPathIn p path → IsPathIn p more → IsPathIn p (path ++ more)
 with_more p [] more h k = k
@@ -43,12 +43,12 @@ reached_path : (p : Program) (bases : ℕ) (path : List Turn) → IsReachedPath 
 reached_path p bases path r =
     (by_nodes r.aim p bases [] (r.turns ∷ []) r.nodes (path ∷ r.open_paths) (by_rounding p (bounds p) r.turns r.earned.rounding.turns_due, tt) r.earned.taken).0
 
-stop_path : (p : Program) (bases boxes : ℕ) (stop : DecideStop) → IsStopOf p bases boxes stop → HasPathIn p stop
+stop_path : (p : Program) (bases boxes : ℕ) (stop : DecideStop) → IsDecideStopOf p bases boxes stop → HasPathIn p stop
 stop_path p bases boxes Memory h = tt
 stop_path p bases boxes (Bases path site) h = reached_path p bases path h.spent.reached.comes
 stop_path p bases boxes (Boxes n) h = tt
 stop_path p bases boxes (Past path site r) h = elim h [ inl s ↦ subst (IsPathIn p) (sym s.no_turns) tt | inr s ↦ reached_path p bases path s.past.reached.comes ]
 
-pub path_if : (p : Program) (bases boxes : ℕ) (r : Result Certificate DecideStop) → IfErr r (IsStopOf p bases boxes) → IfErr r (HasPathIn p)
+pub path_if : (p : Program) (bases boxes : ℕ) (r : Result Certificate DecideStop) → IfErr r (IsDecideStopOf p bases boxes) → IfErr r (HasPathIn p)
 path_if p bases boxes (Ok c) h = tt
 path_if p bases boxes (Err s) h = stop_path p bases boxes s h

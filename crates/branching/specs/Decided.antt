@@ -2,7 +2,7 @@
 use Rattle.std.specs.Prelude.{◌≡◌, ℕ, ◌≤◌, List, length, Ok}
 use Rattle.rational.specs.Rational.{ℚ}
 use Rattle.program_law.specs.declared.Square.{Square}
-use Rattle.program_law.specs.Program.{Program}
+use Rattle.program_law.specs.Program.{Program, most_columns}
 use Rattle.program_law.specs.Verdict.{IsNotConvex}
 use Rattle.certificate_law.specs.declared.Certificate.{Certificate}
 use Rattle.certificate_law.specs.declared.Certificate.TheVariants.{NotConvex}
@@ -35,4 +35,4 @@ ClaimsCurved c = (v : List ℚ) × (c ≡ NotConvex v)
 pub record AreSquaresFor (p : Program) (squares : List Square) : Type 0 where
   pub sum : AreSquaresOf p.pairs squares
   pub fitting : FitsSquares p squares
-  pub few : length squares ≤ 128
+  pub few : length squares ≤ most_columns

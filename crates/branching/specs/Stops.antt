@@ -4,7 +4,7 @@ use Rattle.std.specs.List.{AllByRecursion}
 use Rattle.frac_core.specs.declared.fractions.Refused.{Refused}
 use Rattle.program_law.specs.Program.{Program}
 use Rattle.convexity.specs.ReductionCalculation.{squares_of}
-use Rattle.quad_solve_law.specs.Sites as calculation
+use Rattle.quad_solve_law.specs.Sites.{RegionSite}
 use Rattle.quad_solve.specs.declared.sites.Site.{Site}
 use Rattle.quad_solve.specs.declared.sites.Site.TheVariants as sites
 use Rattle.quad_solve.specs.declared.sites.RelaxStop.{RelaxStop}
@@ -18,13 +18,13 @@ use Rattle.branching.specs.declared.stops.DecideStop.TheVariants.{Memory, Bases,
 
 -- the budget of strict steps is used up at a site that a search reaches, and what comes before it ends within the budgets
 pub record IsSpentAt (p : Program) (bases boxes : ℕ) (path : List Turn) (site : Site) : Type 0 where
-  pub place : calculation.Site
+  pub place : RegionSite
   pub named : IsNamed place site
   pub spent : IsFirstSpentSite p bases boxes path place
 
 -- the operation belongs to a site that a search reaches, and is past
 pub record IsPastAt (p : Program) (bases : ℕ) (path : List Turn) (site : Site) (r : Refused) : Type 0 where
-  pub place : calculation.Site
+  pub place : RegionSite
   pub named : IsNamed place site
   pub past : IsPastSite p bases path place r
 
@@ -35,11 +35,11 @@ pub record HasPastSquares (p : Program) (path : List Turn) (site : Site) (r : Re
   pub past : squares_of p.pairs ≡ Err r
 
 -- Bases at the first site at which its budget is used up; Past at a reached site, or at the squares; and Boxes where an earned tree has one branch more than the budget
-abbrev pub IsStopOf : Program → ℕ → ℕ → DecideStop → Type 0
-IsStopOf p bases boxes Memory = ⊤
-IsStopOf p bases boxes (Bases path site) = IsSpentAt p bases boxes path site
-IsStopOf p bases boxes (Boxes n) = (n ≡ boxes) × IsSpentTree p bases boxes
-IsStopOf p bases boxes (Past path site r) = HasPastSquares p path site r ⊎ IsPastAt p bases path site r
+abbrev pub IsDecideStopOf : Program → ℕ → ℕ → DecideStop → Type 0
+IsDecideStopOf p bases boxes Memory = ⊤
+IsDecideStopOf p bases boxes (Bases path site) = IsSpentAt p bases boxes path site
+IsDecideStopOf p bases boxes (Boxes n) = (n ≡ boxes) × IsSpentTree p bases boxes
+IsDecideStopOf p bases boxes (Past path site r) = HasPastSquares p path site r ⊎ IsPastAt p bases path site r
 
 -- a stop for want of a budget: not of memory, and not by an operation that is past
 abbrev pub IsOfBudget : DecideStop → Type 0

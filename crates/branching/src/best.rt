@@ -9,18 +9,18 @@ ghost use Rattle.branching_law.specs.Nodes.{ForBest};
 ghost use Rattle.search_steps.specs.Progressing.{HasBegun, IsOnWay, work_left};
 ghost use Rattle.branching.specs.Rays.{IsNoRay};
 ghost use Rattle.branching.specs.Reaching.{IsPathOf};
-ghost use Rattle.branching.specs.Stops.{IsStopOf};
+ghost use Rattle.branching.specs.Stops.{IsDecideStopOf};
 ghost use Rattle.search_steps.specs.Trails.{path_of, IsTrail};
 
 use crate::Limits;
+use crate::branches::branched;
 use crate::stops::{DecideStop, stop_on};
 use certificate_law::Node;
-use check_steps::entry;
 use frac_core::{Frac, Vector};
 use program_data::Program;
 use program_law::Squares;
 use quad_solve::{Relaxed, relax};
-use search_steps::{Incumbent, Progress, Trail, first_fractional, is_below};
+use search_steps::{Progress, Trail, is_below};
 use std::alloc::Global;
 
 /// The answer of the region at hand.
@@ -36,7 +36,7 @@ pub fn relaxed(
     requires path { IsPathOf ForBest p.now limits.bases limits.boxes (path_of trail.now) }
     ensures answer { IfOk result (IsRelaxedOf p.now trail.now.walk.region limits.bases) }
     ensures lengths { IfOk result (HasLengths p.now) }
-    ensures stop { IfErr result (IsStopOf p.now limits.bases limits.boxes) }
+    ensures stop { IfErr result (IsDecideStopOf p.now limits.bases limits.boxes) }
 {
     match relax(alloc, p, trail.walk.region(), squares, limits.bases) {
         Ok(answer) => Ok(answer),
@@ -44,8 +44,8 @@ pub fn relaxed(
     }
 }
 
-// Takes the node of a point with the least value, at the path at hand: closes it where the value isn't below the incumbent's, or the
-// point keeps the marks and is the incumbent from now on; else branches at it.
+/// Takes the node of a point with the least value, at the path at hand: closes it where the value isn't below the incumbent's, or the
+/// point keeps the marks and is the incumbent from now on; else branches at it.
 fn point_taken(
     p: &Program,
     x: Vector<Frac>,
@@ -58,26 +58,21 @@ fn point_taken(
     requires uncrossed { IsCrossedRegion progress.old.trail.walk.region → ⊥ }
     requires best { IsBest p.now progress.old.trail.walk.region limits.bases x value y }
     requires length { length x ≡ length p.now.columns }
-    ensures way { IfOk result (λ more. HasBegun p.now limits.bases limits.boxes more progress.new) }
+    ensures way { IfOk result (λ more. HasBegun ForBest p.now limits.bases limits.boxes more progress.new) }
     ensures work { IfOk result (λ more. more ≡ true → work_left limits.boxes progress.new < work_left limits.boxes progress.old) }
-    ensures stop { IfErr result (IsStopOf p.now limits.bases limits.boxes) }
+    ensures stop { IfErr result (IsDecideStopOf p.now limits.bases limits.boxes) }
 {
     if !is_below(value, &progress.incumbent) {
         return Ok(progress.close(Node::Bound(x, y))?);
     }
-    if let Some(j) = first_fractional(p, &x) {
-        if progress.branches == limits.boxes {
-            return Err(DecideStop::Boxes(limits.boxes));
-        }
-        progress.branch(j, entry(&x, j as usize))?;
+    if branched(p, &x, limits, progress)? {
         return Ok(true);
     }
-    let point = x.copied()?;
-    progress.incumbent = Some(Incumbent { point, value });
+    progress.keep(&x, value)?;
     Ok(progress.close(Node::Bound(x, y))?)
 }
 
-// Takes the node of an answer at the path at hand. Answers whether a path is left.
+/// Takes the node of an answer at the path at hand. Answers whether a path is left.
 fn taken(
     p: &Program,
     answer: Relaxed,
@@ -88,9 +83,9 @@ fn taken(
     requires answer { IsRelaxedOf p.now progress.old.trail.walk.region limits.bases answer }
     requires lengths { HasLengths p.now answer }
     requires no_ray { IsNoRay answer }
-    ensures way { IfOk result (λ more. HasBegun p.now limits.bases limits.boxes more progress.new) }
+    ensures way { IfOk result (λ more. HasBegun ForBest p.now limits.bases limits.boxes more progress.new) }
     ensures work { IfOk result (λ more. more ≡ true → work_left limits.boxes progress.new < work_left limits.boxes progress.old) }
-    ensures stop { IfErr result (IsStopOf p.now limits.bases limits.boxes) }
+    ensures stop { IfErr result (IsDecideStopOf p.now limits.bases limits.boxes) }
 {
     match answer {
         Relaxed::Crossed(j) => Ok(progress.close(Node::Cross(j))?),
@@ -115,7 +110,7 @@ pub fn best_searched(
     requires lengths { HasLengths p.now root }
     requires no_ray { IsNoRay root }
     ensures way { OnOk result (IsOnWay ForBest p.now limits.bases limits.boxes false progress.new) }
-    ensures stop { IfErr result (IsStopOf p.now limits.bases limits.boxes) }
+    ensures stop { IfErr result (IsDecideStopOf p.now limits.bases limits.boxes) }
 {
     let _columns = p.columns();
     let mut more = taken(p, root, limits, progress)?;

@@ -7,10 +7,11 @@ ghost use Rattle.cert_grammar.specs.Writable.{IsWritable};
 ghost use Rattle.branching_law.specs.Found.{Convex, IsFoundOf};
 ghost use Rattle.branching_law.specs.Nodes.{Search};
 ghost use Rattle.branching_law.specs.Rounding.{IsMarked};
+ghost use Rattle.branching_law.specs.Search.{most_boxes};
 ghost use Rattle.branching.specs.Decided.{AreSquaresFor};
 ghost use Rattle.search_steps.specs.Progressing.{IsOnWay, IsRoot};
 ghost use Rattle.branching.specs.Rays.{IsNoRay};
-ghost use Rattle.branching.specs.Stops.{IsStopOf};
+ghost use Rattle.branching.specs.Stops.{IsDecideStopOf};
 ghost use Rattle.quad_solve.specs.Relaxation.{HasLengths, IsRelaxedOf};
 ghost use Rattle.certificate_law.specs.Fits.{IsColumnVector};
 
@@ -26,7 +27,7 @@ use quad_solve::Relaxed;
 use search_steps::{Progress, Trail, closed, is_marked, rounded};
 use std::alloc::Global;
 
-// The certificate of a search that has no path left.
+/// The certificate of a search that has no path left.
 fn decided(
     p: &Program,
     limits: Limits,
@@ -34,7 +35,7 @@ fn decided(
     progress: Progress,
 ) -> Result<Certificate, Memory>
     requires squares { AreSquaresFor p.now squares }
-    requires boxes { limits.boxes ≤ 20000 }
+    requires boxes { limits.boxes ≤ most_boxes }
     requires way { (aim : Search) × IsOnWay aim p.now limits.bases limits.boxes false progress }
     ensures found { IfOk result (IsFoundOf p.now (Convex squares) limits.bases limits.boxes) }
     ensures writable { IfOk result (IsWritable p.now) }
@@ -53,7 +54,7 @@ fn decided(
     }
 }
 
-// The certificate by a search for the best, from the answer of its root on.
+/// The certificate by a search for the best, from the answer of its root on.
 fn by_best(
     alloc: Global,
     p: &Program,
@@ -63,14 +64,14 @@ fn by_best(
     answer: Relaxed,
 ) -> Result<Certificate, DecideStop>
     requires squares { AreSquaresFor p.now squares }
-    requires boxes { limits.boxes ≤ 20000 }
+    requires boxes { limits.boxes ≤ most_boxes }
     requires root { IsRoot p.now root }
     requires answer { IsRelaxedOf p.now root.walk.region limits.bases answer }
     requires lengths { HasLengths p.now answer }
     requires no_ray { IsNoRay answer }
     ensures found { IfOk result (IsFoundOf p.now (Convex squares) limits.bases limits.boxes) }
     ensures writable { IfOk result (IsWritable p.now) }
-    ensures stop { IfErr result (IsStopOf p.now limits.bases limits.boxes) }
+    ensures stop { IfErr result (IsDecideStopOf p.now limits.bases limits.boxes) }
 {
     let _columns = p.columns();
     let mut progress = Progress::start(alloc, root)?;
@@ -78,7 +79,7 @@ fn by_best(
     Ok(decided(p, limits, squares, progress)?)
 }
 
-// The certificate by a search for a point, from the point and the ray of its root on.
+/// The certificate by a search for a point, from the point and the ray of its root on.
 fn by_point(
     alloc: Global,
     p: &Program,
@@ -89,7 +90,7 @@ fn by_point(
     d: Vector<Frac>,
 ) -> Result<Certificate, DecideStop>
     requires squares { AreSquaresFor p.now squares }
-    requires boxes { limits.boxes ≤ 20000 }
+    requires boxes { limits.boxes ≤ most_boxes }
     requires root { IsRoot p.now root }
     requires marked { IsMarked p.now }
     requires uncrossed { IsCrossedRegion root.walk.region → ⊥ }
@@ -97,7 +98,7 @@ fn by_point(
     requires lengths { IsColumnVector p.now x × IsColumnVector p.now d }
     ensures found { IfOk result (IsFoundOf p.now (Convex squares) limits.bases limits.boxes) }
     ensures writable { IfOk result (IsWritable p.now) }
-    ensures stop { IfErr result (IsStopOf p.now limits.bases limits.boxes) }
+    ensures stop { IfErr result (IsDecideStopOf p.now limits.bases limits.boxes) }
 {
     let _columns = p.columns();
     let mut progress = Progress::start(alloc, root)?;
@@ -115,10 +116,10 @@ pub fn convex(
     limits: Limits,
 ) -> Result<Certificate, DecideStop>
     requires squares { AreSquaresFor p.now squares }
-    requires boxes { limits.boxes ≤ 20000 }
+    requires boxes { limits.boxes ≤ most_boxes }
     ensures found { IfOk result (IsFoundOf p.now (Convex squares) limits.bases limits.boxes) }
     ensures writable { IfOk result (IsWritable p.now) }
-    ensures stop { IfErr result (IsStopOf p.now limits.bases limits.boxes) }
+    ensures stop { IfErr result (IsDecideStopOf p.now limits.bases limits.boxes) }
 {
     let _columns = p.columns();
     let root = rounded(alloc, p)?;

@@ -2,6 +2,7 @@
 #![tactic(auto)]
 
 mod best;
+mod branches;
 mod deciding;
 mod endings;
 mod point;
@@ -12,8 +13,9 @@ ghost use Rattle.certificate_law.specs.Good.{IsGood};
 ghost use Rattle.cert_check_law.specs.Chain.{NoTestFails};
 ghost use Rattle.cert_check_law.specs.Check.{checked};
 ghost use Rattle.cert_grammar.specs.Writable.{IsWritable};
+ghost use Rattle.branching_law.specs.Search.{most_boxes};
 ghost use Rattle.branching.specs.Decided.{ClaimsCurved, IsCurved, IsFound};
-ghost use Rattle.branching.specs.Stops.{HasPathIn, IsStopOf};
+ghost use Rattle.branching.specs.Stops.{HasPathIn, IsDecideStopOf};
 
 use crate::deciding::convex;
 pub use branching_law::{Cut, Turn};
@@ -42,7 +44,7 @@ pub struct Limits {
 /// The form's squares are made; a vector of a negative form is the certificate. Else the bounds of the marked columns are made whole,
 /// and the region that is left is the root of a search: for the best point that keeps the marks, or, where the root has a ray, for any
 /// point that keeps them. A search goes depth first, the lower side of a branch first, and branches on the first marked column at which
-/// its point isn't whole.
+/// its point isn't whole (branch and bound, after Land and Doig).
 ///
 /// No test of the checking calculation fails on the certificate, so the check accepts it wherever it isn't past. It claims that the
 /// program isn't convex exactly where some vector has a negative form.
@@ -52,13 +54,13 @@ pub struct Limits {
 /// `Bases` at the first site at which a chain or a walk would go on after `bases` steps, `Boxes` where a branch more than `boxes` was due, `Past` where the
 /// exact result of an operation doesn't fit, each with the path and the site where there is one; and `Memory`.
 pub fn decide(alloc: Global, p: &Program, limits: Limits) -> Result<Certificate, DecideStop>
-    requires { limits.boxes ≤ 20000 }
+    requires { limits.boxes ≤ most_boxes }
     ensures found { IfOk result (IsFound p.now limits.bases limits.boxes) }
     ensures good { IfOk result (IsGood p.now) }
     ensures curved { IfOk result (λ c. ClaimsCurved c ↔ IsCurved p.now) }
     ensures accepted { IfOk result (λ c. NoTestFails (checked p.now c)) }
     ensures writable { IfOk result (IsWritable p.now) }
-    ensures stop { IfErr result (IsStopOf p.now limits.bases limits.boxes) }
+    ensures stop { IfErr result (IsDecideStopOf p.now limits.bases limits.boxes) }
     ensures path { IfErr result (HasPathIn p.now) }
 {
     let _columns = p.columns();

@@ -7,17 +7,17 @@ ghost use Rattle.quad_solve.specs.Answers.{HasSizes, IsAnyPointOf};
 ghost use Rattle.branching_law.specs.Nodes.{ForPoint};
 ghost use Rattle.search_steps.specs.Progressing.{IsOnWay};
 ghost use Rattle.branching.specs.Reaching.{EndsIn, IsPathOf, IsTakenTo};
-ghost use Rattle.branching.specs.Stops.{IsStopOf};
+ghost use Rattle.branching.specs.Stops.{IsDecideStopOf};
 ghost use Rattle.search_steps.specs.Trails.{path_of, IsTrail};
 
 use crate::Limits;
+use crate::branches::branched;
 use crate::stops::{DecideStop, stop_on};
 use certificate_law::Node;
-use check_steps::entry;
 use frac_core::{Frac, Vector};
 use program_data::Program;
 use quad_solve::{AnyPoint, any_point};
-use search_steps::{Progress, Trail, first_fractional};
+use search_steps::{Progress, Trail};
 use std::alloc::Global;
 
 /// What a search for a point does at a path.
@@ -31,14 +31,14 @@ pub enum Outcome {
     Done,
 }
 
-// What comes after a node: whether a path is left.
+/// What comes after a node: whether a path is left.
 fn after(more: bool) -> Outcome
     ensures { result ≡ (if more then Outcome.More else Outcome.Done) }
 {
     if more { Outcome::More } else { Outcome::Done }
 }
 
-// What feasibility tells of the region at hand.
+/// What feasibility tells of the region at hand.
 fn pointed(
     alloc: Global,
     p: &Program,
@@ -49,7 +49,7 @@ fn pointed(
     requires path { IsPathOf ForPoint p.now limits.bases limits.boxes (path_of trail.now) }
     ensures answer { IfOk result (IsAnyPointOf p.now trail.now.walk.region limits.bases) }
     ensures sizes { IfOk result (HasSizes p.now) }
-    ensures stop { IfErr result (IsStopOf p.now limits.bases limits.boxes) }
+    ensures stop { IfErr result (IsDecideStopOf p.now limits.bases limits.boxes) }
 {
     match any_point(alloc, p, trail.walk.region(), limits.bases) {
         Ok(answer) => Ok(answer),
@@ -57,7 +57,7 @@ fn pointed(
     }
 }
 
-// Takes the node of a point at the path at hand: branches at it, unless it keeps the marks.
+/// Takes the node of a point at the path at hand: branches at it, unless it keeps the marks.
 fn point_taken(
     p: &Program,
     x: Vector<Frac>,
@@ -69,19 +69,15 @@ fn point_taken(
     requires found { IsFound p.now progress.old.trail.walk.region limits.bases x }
     requires length { length x ≡ length p.now.columns }
     ensures taken { IfOk result (IsTakenTo p.now limits.bases limits.boxes progress.old progress.new) }
-    ensures stop { IfErr result (IsStopOf p.now limits.bases limits.boxes) }
+    ensures stop { IfErr result (IsDecideStopOf p.now limits.bases limits.boxes) }
 {
-    if let Some(j) = first_fractional(p, &x) {
-        if progress.branches == limits.boxes {
-            return Err(DecideStop::Boxes(limits.boxes));
-        }
-        progress.branch(j, entry(&x, j as usize))?;
+    if branched(p, &x, limits, progress)? {
         return Ok(Outcome::More);
     }
     Ok(Outcome::Found(x))
 }
 
-// Takes the node of an answer at the path at hand.
+/// Takes the node of an answer at the path at hand.
 fn taken(
     p: &Program,
     answer: AnyPoint,
@@ -92,7 +88,7 @@ fn taken(
     requires answer { IsAnyPointOf p.now progress.old.trail.walk.region limits.bases answer }
     requires sizes { HasSizes p.now answer }
     ensures taken { IfOk result (IsTakenTo p.now limits.bases limits.boxes progress.old progress.new) }
-    ensures stop { IfErr result (IsStopOf p.now limits.bases limits.boxes) }
+    ensures stop { IfErr result (IsDecideStopOf p.now limits.bases limits.boxes) }
 {
     match answer {
         AnyPoint::Crossed(j) => Ok(after(progress.close(Node::Cross(j))?)),
@@ -114,7 +110,7 @@ pub fn point_searched(
     requires found { IsFound p.now progress.old.trail.walk.region limits.bases root }
     requires length { length root ≡ length p.now.columns }
     ensures ends { IfOk result (λ found. EndsIn p.now limits.bases limits.boxes found progress.new) }
-    ensures stop { IfErr result (IsStopOf p.now limits.bases limits.boxes) }
+    ensures stop { IfErr result (IsDecideStopOf p.now limits.bases limits.boxes) }
 {
     let mut answer = AnyPoint::Point(root);
     'paths: loop {

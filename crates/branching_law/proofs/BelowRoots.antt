@@ -16,7 +16,7 @@ use Rattle.equational_law.proofs.Rays.{ray_of, ray_from}
 use Rattle.equational_law.proofs.Shapes.{shape}
 use Rattle.quad_solve_law.specs.Problems.{ray_problem}
 use Rattle.quad_solve_law.specs.Answer.{IsFalling, IsBest}
-use Rattle.quad_solve_law.specs.Sites.{Site, HasNoRay}
+use Rattle.quad_solve_law.specs.Sites.{RegionSite, HasNoRay}
 use Rattle.quad_solve_law.proofs.Decided.{refuted_is_farkas}
 use Rattle.quad_solve_law.proofs.Directions.{rays_form_a_problem, refuted_has_none}
 use Rattle.quad_solve_law.proofs.RegionAnswers.{found_is_point, falling_is_ray, empty_is_good}
@@ -122,7 +122,7 @@ module _ (p : Program) (is : IsProgram p) where
 
 -- ---- budgets
 
-pub spent_site_small : (p : Program) (bases : ℕ) (path : List Turn) (site : Site) → IsProgram p → IsSpentSite p bases path site
+pub spent_site_small : (p : Program) (bases : ℕ) (path : List Turn) (site : RegionSite) → IsProgram p → IsSpentSite p bases path site
     → bases + 2 ≤ 2 ^ (width p (region_of p path) + width p (region_of p path) + length (form_of p (region_of p path)).matrix + 1)
 spent_site_small p bases path site is h = spent_is_small p (region_of p path) bases site is (wide p path) h.reached.comes.earned.convex h.reached.reached h.spent
 

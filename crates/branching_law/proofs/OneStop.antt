@@ -15,7 +15,7 @@ use Rattle.equational_law.proofs.Shapes.{shape}
 use Rattle.quad_solve_law.specs.Problems.{feasible_problem}
 use Rattle.quad_solve_law.specs.Walk.{IsDecidedWithin}
 use Rattle.quad_solve_law.specs.Answer.{Answer, Empty, Ray, Best, IsAnswer, IsFound, IsFalling}
-use Rattle.quad_solve_law.specs.Sites.{Site, AtForm, AtFeasible, AtRay, AtFace, AtPrice, IsFirstSpent}
+use Rattle.quad_solve_law.specs.Sites.{RegionSite, AtForm, AtFeasible, AtRay, AtFace, AtPrice, IsFirstSpent}
 use Rattle.quad_solve_law.proofs.Directions.{feasible_is_a_problem}
 use Rattle.quad_solve_law.proofs.FirstSpent.{one_site, no_answer_beside}
 use Rattle.quad_solve_law.proofs.OneEnd.{spent_is_undecided}
@@ -48,13 +48,13 @@ module _ (p : Program) (is : IsProgram p) (convex : IsSemidefinite (length p.col
   abbrev HasNoAnswer : List Turn → Type 0
   HasNoAnswer path = (a : Answer) → IsAnswer p (region_of p path) bases a → ⊥
 
-  abbrev First : List Turn → Site → Type 0
+  abbrev First : List Turn → RegionSite → Type 0
   First path site = IsFirstSpent p (region_of p path) bases site
 
-  no_answer : (path : List Turn) (site : Site) → First path site → HasNoAnswer path
+  no_answer : (path : List Turn) (site : RegionSite) → First path site → HasNoAnswer path
   no_answer path site h a k = no_answer_beside p (region_of p path) is (wide p path) convex bases site a h k
 
-  undecided : (path : List Turn) (site : Site) → IsFeasibilitySite site → First path site → IsDecidedWithin (feasible_problem (form_of p (region_of p path))) bases → ⊥
+  undecided : (path : List Turn) (site : RegionSite) → IsFeasibilitySite site → First path site → IsDecidedWithin (feasible_problem (form_of p (region_of p path))) bases → ⊥
   undecided path AtForm f h d = h.spent
   undecided path (AtFeasible b) f h d =
       let form = form_of p (region_of p path) in
@@ -78,7 +78,7 @@ module _ (p : Program) (is : IsProgram p) (convex : IsSemidefinite (length p.col
   point_stuck path rest uncrossed none points (Farkas y) h = none (inr (h.empty.farkas, h.empty.refuted))
   point_stuck path rest uncrossed none points (Cross j) h = uncrossed (crossed_by p is convex (region_of p path) j h)
 
-  site_stuck : (aim : Search) (n : Node) (ns : List Node) (path : List Turn) (rest : List (List Turn)) (site : Site) → (IsCrossedRegion (region_of p path) → ⊥) → IsAsked aim (n ∷ ns) site → First path site
+  site_stuck : (aim : Search) (n : Node) (ns : List Node) (path : List Turn) (rest : List (List Turn)) (site : RegionSite) → (IsCrossedRegion (region_of p path) → ⊥) → IsAsked aim (n ∷ ns) site → First path site
       → IsStuck p is convex aim bases (path ∷ rest)
   site_stuck ForBest n ns path rest site uncrossed asked h = best_stuck path rest uncrossed (no_answer path site h)
   site_stuck ForPoint n ns path rest site uncrossed asked h = point_stuck path rest uncrossed (undecided path site asked h)
@@ -92,7 +92,7 @@ module _ (p : Program) (is : IsProgram p) (convex : IsSemidefinite (length p.col
   -- ---- the site
 
   -- a site at which a budget is used up first, with its search
-  record Spent (boxes : ℕ) (path : List Turn) (site : Site) (nodes : List Node) : Type 0 where
+  record Spent (boxes : ℕ) (path : List Turn) (site : RegionSite) (nodes : List Node) : Type 0 where
     aim : Search
     turns : List Turn
     rest : List (List Turn)
@@ -102,7 +102,7 @@ module _ (p : Program) (is : IsProgram p) (convex : IsSemidefinite (length p.col
     first : First path site
     few : branches nodes ≤ boxes
 
-  spent_of : (boxes : ℕ) (path : List Turn) (site : Site) (h : IsFirstSpentSite p bases boxes path site) → Spent boxes path site h.reached.comes.nodes
+  spent_of : (boxes : ℕ) (path : List Turn) (site : RegionSite) (h : IsFirstSpentSite p bases boxes path site) → Spent boxes path site h.reached.comes.nodes
   spent_of boxes path site h = record {
     aim = h.reached.comes.aim;
     turns = h.reached.comes.turns;
@@ -119,7 +119,7 @@ module _ (p : Program) (is : IsProgram p) (convex : IsSemidefinite (length p.col
   begun ForBest n ns = tt
   begun ForPoint n ns = tt
 
-  halt : (boxes : ℕ) (path : List Turn) (site : Site) (n : Node) (ns : List Node) → Spent boxes path site (n ∷ ns) → Halt p is convex bases
+  halt : (boxes : ℕ) (path : List Turn) (site : RegionSite) (n : Node) (ns : List Node) → Spent boxes path site (n ∷ ns) → Halt p is convex bases
   halt boxes path site n ns h = record {
     aim = h.aim;
     turns = h.turns;
@@ -131,26 +131,26 @@ module _ (p : Program) (is : IsProgram p) (convex : IsSemidefinite (length p.col
   }
 
   -- or it is at the root
-  at_root : (boxes : ℕ) (path : List Turn) (site : Site) (h : Spent boxes path site []) → path ≡ h.turns
+  at_root : (boxes : ℕ) (path : List Turn) (site : RegionSite) (h : Spent boxes path site []) → path ≡ h.turns
   at_root boxes path site h = sym (heads h.earned.taken)
 
   -- and then no search of the program has taken a node
-  none_taken : (boxes : ℕ) (path : List Turn) (site : Site) → Spent boxes path site [] → (aim : Search) (turns : List Turn) (n : Node) (ns : List Node) (left : List (List Turn))
+  none_taken : (boxes : ℕ) (path : List Turn) (site : RegionSite) → Spent boxes path site [] → (aim : Search) (turns : List Turn) (n : Node) (ns : List Node) (left : List (List Turn))
       → IsEarned aim p bases turns (n ∷ ns) left → ⊥
   none_taken boxes path site h aim turns n ns left e =
       let same : path ≡ turns = at_root boxes path site h ∙ rounding_is_one p h.turns turns h.earned.rounding e.rounding in
       root_answers aim turns n ns left e (subst (λ (t : List Turn). IsCrossedRegion (region_of p t) → ⊥) same h.uncrossed) (subst HasNoAnswer same (no_answer path site h.first))
 
-  none_falling : (boxes : ℕ) (path : List Turn) (site : Site) → Spent boxes path site [] → (turns : List Turn) (x d : List ℚ) → IsRounding p turns → IsFalling p (region_of p turns) bases x d → ⊥
+  none_falling : (boxes : ℕ) (path : List Turn) (site : RegionSite) → Spent boxes path site [] → (turns : List Turn) (x d : List ℚ) → IsRounding p turns → IsFalling p (region_of p turns) bases x d → ⊥
   none_falling boxes path site h turns x d r f =
       let same : path ≡ turns = at_root boxes path site h ∙ rounding_is_one p h.turns turns h.earned.rounding r in
       subst HasNoAnswer same (no_answer path site h.first) (Ray x d) f
 
-  halted_at : (boxes : ℕ) (path : List Turn) (site : Site) (n : Node) (ns : List Node) (h : Spent boxes path site (n ∷ ns)) (k : Halt p is convex bases) → path ∷ h.rest ≡ k.left
+  halted_at : (boxes : ℕ) (path : List Turn) (site : RegionSite) (n : Node) (ns : List Node) (h : Spent boxes path site (n ∷ ns)) (k : Halt p is convex bases) → path ∷ h.rest ≡ k.left
   unfolding halt
   halted_at boxes path site n ns h k = same_end p is convex bases (halt boxes path site n ns h) k
 
-  one_path : (boxes : ℕ) (path other : List Turn) (site place : Site) (nodes more : List Node) → Spent boxes path site nodes → Spent boxes other place more → path ≡ other
+  one_path : (boxes : ℕ) (path other : List Turn) (site place : RegionSite) (nodes more : List Node) → Spent boxes path site nodes → Spent boxes other place more → path ≡ other
   unfolding halt
   one_path boxes path other site place [] [] h k =
       at_root boxes path site h ∙ rounding_is_one p h.turns k.turns h.earned.rounding k.earned.rounding ∙ sym (at_root boxes other place k)
@@ -158,7 +158,7 @@ module _ (p : Program) (is : IsProgram p) (convex : IsSemidefinite (length p.col
   one_path boxes path other site place (n ∷ ns) [] h k = absurd (none_taken boxes other place k h.aim h.turns n ns (path ∷ h.rest) h.earned)
   one_path boxes path other site place (n ∷ ns) (m ∷ ms) h k = heads (halted_at boxes path site n ns h (halt boxes other place m ms k))
 
-  pub one_spent_site : (boxes : ℕ) (path other : List Turn) (site place : Site) → IsFirstSpentSite p bases boxes path site → IsFirstSpentSite p bases boxes other place → (path ≡ other) × (site ≡ place)
+  pub one_spent_site : (boxes : ℕ) (path other : List Turn) (site place : RegionSite) → IsFirstSpentSite p bases boxes path site → IsFirstSpentSite p bases boxes other place → (path ≡ other) × (site ≡ place)
   one_spent_site boxes path other site place h k =
       let e = one_path boxes path other site place h.reached.comes.nodes k.reached.comes.nodes (spent_of boxes path site h) (spent_of boxes other place k) in
       (e, one_site p (region_of p other) is (wide p other) convex bases site place (subst (λ (w : List Turn). First w site) e h.first) k.first)
@@ -184,7 +184,7 @@ module _ (p : Program) (is : IsProgram p) (convex : IsSemidefinite (length p.col
       too_few (branches tree.nodes) (branches k.nodes) boxes tree.count
       (tree_is_within p is convex bases tree.aim tree.turns tree.nodes tree.open_paths k tree.earned (some_begun tree.aim tree.nodes (some_branch boxes tree))) few
 
-  tree_or_site : (boxes : ℕ) (path : List Turn) (site : Site) (nodes : List Node) → Spent boxes path site nodes → IsSpentTree p bases boxes → ⊥
+  tree_or_site : (boxes : ℕ) (path : List Turn) (site : RegionSite) (nodes : List Node) → Spent boxes path site nodes → IsSpentTree p bases boxes → ⊥
   unfolding halt
   tree_or_site boxes path site [] h tree = by tree.nodes tree.earned (some_branch boxes tree)
     where
@@ -196,7 +196,7 @@ module _ (p : Program) (is : IsProgram p) (convex : IsSemidefinite (length p.col
       by (n ∷ ns) e l = none_taken boxes path site h tree.aim tree.turns n ns tree.open_paths e
   tree_or_site boxes path site (n ∷ ns) h tree = no_tree boxes tree (halt boxes path site n ns h) h.few
 
-  pub no_tree_beside : (boxes : ℕ) (path : List Turn) (site : Site) → IsFirstSpentSite p bases boxes path site → IsSpentTree p bases boxes → ⊥
+  pub no_tree_beside : (boxes : ℕ) (path : List Turn) (site : RegionSite) → IsFirstSpentSite p bases boxes path site → IsSpentTree p bases boxes → ⊥
   no_tree_beside boxes path site h tree = tree_or_site boxes path site h.reached.comes.nodes (spent_of boxes path site h) tree
 
   -- ---- no certificate
@@ -237,11 +237,11 @@ module _ (p : Program) (is : IsProgram p) (convex : IsSemidefinite (length p.col
         best_root p is bases turns left n ns e g.point g.ray (found_is_point p (region_of p turns) is (wide p turns) bases g.point f.found) (falling_is_ray p (region_of p turns) is (wide p turns) bases g.point g.ray f)
 
     -- beside a site
-    site_or_falling : (path : List Turn) (site : Site) (nodes : List Node) → Spent boxes path site nodes → IsFallingProgram p bases squares c → ⊥
+    site_or_falling : (path : List Turn) (site : RegionSite) (nodes : List Node) → Spent boxes path site nodes → IsFallingProgram p bases squares c → ⊥
     site_or_falling path site [] h g = none_falling boxes path site h h.turns g.point g.ray h.earned.rounding (falls_at g h.turns h.earned.rounding)
     site_or_falling path site (n ∷ ns) h g = no_search g h.aim h.turns n ns (path ∷ h.rest) h.earned
 
-    site_or_point : (path : List Turn) (site : Site) (nodes : List Node) → Spent boxes path site nodes → IsFallingAt p bases boxes squares c → ⊥
+    site_or_point : (path : List Turn) (site : RegionSite) (nodes : List Node) → Spent boxes path site nodes → IsFallingAt p bases boxes squares c → ⊥
     unfolding halt halt_at
     site_or_point path site [] h g = none_falling boxes path site h g.turns g.start g.ray g.earned.rounding g.falling
     site_or_point path site (n ∷ ns) h g =
@@ -249,7 +249,7 @@ module _ (p : Program) (is : IsProgram p) (convex : IsSemidefinite (length p.col
         let found : IsFound p (region_of p path) bases g.point = subst (λ (w : List Turn). IsFound p (region_of p w) bases g.point) (sym e) g.found in
         undecided path site (subst (λ (a : Search). IsAsked a (n ∷ ns) site) (same_aim p is convex bases (halt boxes path site n ns h) (halt_at g)) h.asked) h.first (inl (found.solution, found.solved))
 
-    site_or_decided : (path : List Turn) (site : Site) (nodes : List Node) → Spent boxes path site nodes → IsDecided p bases boxes squares c → ⊥
+    site_or_decided : (path : List Turn) (site : RegionSite) (nodes : List Node) → Spent boxes path site nodes → IsDecided p bases boxes squares c → ⊥
     unfolding halt_end
     site_or_decided path site [] h g = by g.nodes g.earned
       where
@@ -258,12 +258,12 @@ module _ (p : Program) (is : IsProgram p) (convex : IsSemidefinite (length p.col
         by (n ∷ ns) e = none_taken boxes path site h g.aim g.turns n ns [] e
     site_or_decided path site (n ∷ ns) h g = none_left (halted_at boxes path site n ns h (halt_end g))
 
-    site_or_found : (path : List Turn) (site : Site) (nodes : List Node) → Spent boxes path site nodes → IsFoundOf p (Convex squares) bases boxes c → ⊥
+    site_or_found : (path : List Turn) (site : RegionSite) (nodes : List Node) → Spent boxes path site nodes → IsFoundOf p (Convex squares) bases boxes c → ⊥
     site_or_found path site nodes h (inl g) = site_or_falling path site nodes h g
     site_or_found path site nodes h (inr (inl g)) = site_or_point path site nodes h g
     site_or_found path site nodes h (inr (inr g)) = site_or_decided path site nodes h g
 
-    pub no_certificate_at_site : (path : List Turn) (site : Site) → IsFirstSpentSite p bases boxes path site → IsFoundOf p (Convex squares) bases boxes c → ⊥
+    pub no_certificate_at_site : (path : List Turn) (site : RegionSite) → IsFirstSpentSite p bases boxes path site → IsFoundOf p (Convex squares) bases boxes c → ⊥
     no_certificate_at_site path site h g = site_or_found path site h.reached.comes.nodes (spent_of boxes path site h) g
 
     -- beside a tree

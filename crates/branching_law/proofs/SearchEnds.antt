@@ -17,7 +17,7 @@ use Rattle.program_law.specs.Squares.{AreSquaresOf}
 use Rattle.linear_basis_law.specs.Basis.{Tableau}
 use Rattle.equational_law.specs.Form.{width, form_of, point_of, multipliers_of}
 use Rattle.quad_solve_law.specs.Answer.{Answer, Empty, Ray, Best, IsAnswer, IsFound, IsFalling, IsBest}
-use Rattle.quad_solve_law.specs.Sites.{Site, AtFeasible, HasNoRay, IsFirstSpent}
+use Rattle.quad_solve_law.specs.Sites.{RegionSite, AtFeasible, HasNoRay, IsFirstSpent}
 use Rattle.quad_solve_law.proofs.FirstSpent.{answer_or_spent, feasible_told}
 use Rattle.branching_law.specs.declared.Turn.{Turn}
 use Rattle.branching_law.specs.Paths.{region_of}
@@ -86,13 +86,13 @@ module _ (p : Program) (squares : List Square) (bases boxes : ℕ) (is : IsProgr
 
   -- a certificate, or a site at which the budget of strict steps is used up first, or a tree with a branch too many
   abbrev pub Ends : Type 0
-  Ends = Found ⊎ ((path : List Turn) × (site : Site) × IsFirstSpentSite p bases boxes path site) ⊎ IsSpentTree p bases boxes
+  Ends = Found ⊎ ((path : List Turn) × (site : RegionSite) × IsFirstSpentSite p bases boxes path site) ⊎ IsSpentTree p bases boxes
 
   abbrev Going : Search → List Node → List (List Turn) → Option (List ℚ) → Type 0
   Going aim nodes waiting o = IsSearching aim p bases boxes turns nodes waiting o
 
   stops_at : (aim : Search) (nodes : List Node) (path : List Turn) (rest : List (List Turn)) (o : Option (List ℚ)) → Going aim nodes (path ∷ rest) o → (IsCrossedRegion (region_of p path) → ⊥)
-      → (site : Site) → IsAsked aim nodes site → IsFirstSpent p (region_of p path) bases site → Ends
+      → (site : RegionSite) → IsAsked aim nodes site → IsFirstSpent p (region_of p path) bases site → Ends
   stops_at aim nodes path rest o h uncrossed site asked first =
       inr (inl (
         path,
@@ -289,7 +289,7 @@ module _ (p : Program) (squares : List Square) (bases boxes : ℕ) (is : IsProgr
           ]
 
   -- a certificate is found where neither budget is used up
-  pub found_unless : ((path : List Turn) (site : Site) → ¬ (IsFirstSpentSite p bases boxes path site)) → ¬ (IsSpentTree p bases boxes) → Found
+  pub found_unless : ((path : List Turn) (site : RegionSite) → ¬ (IsFirstSpentSite p bases boxes path site)) → ¬ (IsSpentTree p bases boxes) → Found
   found_unless no_site no_tree =
       elim some_outcome [
         | inl c ↦ c

@@ -56,6 +56,10 @@ branches (Bound x y ∷ ns) = branches ns
 branches (Farkas y ∷ ns) = branches ns
 branches (Cross j ∷ ns) = branches ns
 
+-- the most that a budget of branches may be
+abbrev pub most_boxes : ℕ
+most_boxes = 20000
+
 -- the points of its leaves, in order
 abbrev pub points_of : List Node → List (List ℚ)
 points_of [] = []

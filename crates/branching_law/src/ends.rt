@@ -8,7 +8,7 @@ ghost use Rattle.program_law.specs.Program.{Program, IsProgram, bounds, marks};
 ghost use Rattle.certificate_law.specs.declared.Certificate.{Certificate};
 ghost use Rattle.program_law.specs.Squares.{AreSquaresOf};
 ghost use Rattle.equational_law.specs.Form.{width, form_of};
-ghost use Rattle.quad_solve_law.specs.Sites.{Site};
+ghost use Rattle.quad_solve_law.specs.Sites.{RegionSite};
 ghost use Rattle.branching_law.specs.declared.Turn.{Turn};
 ghost use Rattle.branching_law.specs.Paths.{region_of};
 ghost use Rattle.branching_law.specs.Rounding.{IsMarked, IsRounding};
@@ -34,7 +34,7 @@ pub fn searches_find_a_certificate()
 /// Under the same premises no budget is ever used up: at no reached site that of strict steps, and that of branches by no earned
 /// tree.
 pub fn large_budgets_are_never_used_up()
-    ensures bases { (p : Program) (bases : ℕ) (path : List Turn) (site : Site) → IsProgram p → IsSpentSite p bases path site →
+    ensures bases { (p : Program) (bases : ℕ) (path : List Turn) (site : RegionSite) → IsProgram p → IsSpentSite p bases path site →
         2 ^ (width p (region_of p path) + width p (region_of p path) + length (form_of p (region_of p path)).matrix + 1) ≤ bases → ⊥ }
     ensures boxes { (p : Program) (bases boxes : ℕ) → IsProgram p → IsSpentTree p bases boxes →
         ((turns : List Turn) → IsRounding p turns → (IsCrossedRegion (region_of p turns) → ⊥) → IsMarked p →
@@ -47,14 +47,14 @@ pub fn large_budgets_are_never_used_up()
 pub fn searches_end_in_one_way()
     ensures some { (p : Program) (squares : List Square) (bases boxes : ℕ) → IsProgram p → AreSquaresOf p.pairs squares →
         ((c : Certificate) × IsFoundOf p (Convex squares) bases boxes c)
-        ⊎ ((path : List Turn) × (site : Site) × IsFirstSpentSite p bases boxes path site) ⊎ IsSpentTree p bases boxes }
-    ensures site { (p : Program) (bases boxes : ℕ) (path other : List Turn) (site place : Site) → IsProgram p →
+        ⊎ ((path : List Turn) × (site : RegionSite) × IsFirstSpentSite p bases boxes path site) ⊎ IsSpentTree p bases boxes }
+    ensures site { (p : Program) (bases boxes : ℕ) (path other : List Turn) (site place : RegionSite) → IsProgram p →
         IsFirstSpentSite p bases boxes path site → IsFirstSpentSite p bases boxes other place → (path ≡ other) × (site ≡ place) }
-    ensures not_both { (p : Program) (bases boxes : ℕ) (path : List Turn) (site : Site) → IsProgram p →
+    ensures not_both { (p : Program) (bases boxes : ℕ) (path : List Turn) (site : RegionSite) → IsProgram p →
         IsFirstSpentSite p bases boxes path site → IsSpentTree p bases boxes → ⊥ }
     ensures found { (p : Program) (squares : List Square) (bases boxes : ℕ) → IsProgram p → AreSquaresOf p.pairs squares →
         ((c : Certificate) × IsFoundOf p (Convex squares) bases boxes c)
-        ↔ (((path : List Turn) (site : Site) → ¬ (IsFirstSpentSite p bases boxes path site)) × (¬ (IsSpentTree p bases boxes))) }
+        ↔ (((path : List Turn) (site : RegionSite) → ¬ (IsFirstSpentSite p bases boxes path site)) × (¬ (IsSpentTree p bases boxes))) }
 {}
 
 /// Only one certificate is found of a program, whatever the budgets: its rounding, its tree, its incumbent, its point and its ray

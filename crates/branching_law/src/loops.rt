@@ -12,7 +12,7 @@ ghost use Rattle.certificate_law.specs.declared.Node.{Node};
 ghost use Rattle.certificate_law.specs.declared.Node.TheVariants.{Branch, Bound, Farkas, Cross};
 ghost use Rattle.certificate_law.specs.declared.Certificate.TheVariants.{Unbounded};
 ghost use Rattle.quad_solve_law.specs.Answer.{IsFound, IsEmpty, IsBest, IsFalling};
-ghost use Rattle.quad_solve_law.specs.Sites.{Site, IsReached};
+ghost use Rattle.quad_solve_law.specs.Sites.{RegionSite, IsReached};
 ghost use Rattle.branching_law.specs.declared.Turn.{Turn};
 ghost use Rattle.branching_law.specs.Paths.{region_of, below, above, IsFirst};
 ghost use Rattle.branching_law.specs.Rounding.{IsMarked, IsRounding, under_rounding};
@@ -105,7 +105,7 @@ pub fn next_paths_are_reached()
         (rest : List (List Turn)) (incumbent : Option (List ℚ)) →
         IsSearching aim p bases boxes turns nodes (path ∷ rest) incumbent → IsReachedPath p bases path }
     ensures site { (aim : Search) (p : Program) (bases boxes : ℕ) (turns : List Turn) (nodes : List Node) (path : List Turn)
-        (rest : List (List Turn)) (incumbent : Option (List ℚ)) (site : Site) →
+        (rest : List (List Turn)) (incumbent : Option (List ℚ)) (site : RegionSite) →
         IsSearching aim p bases boxes turns nodes (path ∷ rest) incumbent → (IsCrossedRegion (region_of p path) → ⊥) →
         IsAsked aim nodes site → IsReached p (region_of p path) site → IsReachedSite p bases path site }
 {}

@@ -10,7 +10,7 @@ ghost use Rattle.certificate_law.specs.Ray.{IsRay};
 ghost use Rattle.equational_law.specs.Form.{width, form_of};
 ghost use Rattle.equational_law.specs.Solutions.{HasItsBounds};
 ghost use Rattle.quad_solve_law.specs.Answer.{IsFalling};
-ghost use Rattle.quad_solve_law.specs.Sites.{Site, HasNoRay};
+ghost use Rattle.quad_solve_law.specs.Sites.{RegionSite, HasNoRay};
 ghost use Rattle.branching_law.specs.declared.Turn.{Turn};
 ghost use Rattle.branching_law.specs.Paths.{region_of};
 ghost use Rattle.branching_law.specs.Rounding.{IsMarked, AreRoundingTurns};
@@ -49,7 +49,7 @@ pub fn no_ray_below_a_root_without()
 /// columns and m equations of the form there. With C columns and R rows in the program these are at most 2C + 2R and C + 2R; so a
 /// budget of 2^(5C + 6R + 1) is always enough.
 pub fn large_budgets_are_enough()
-    ensures site { (p : Program) (bases : ℕ) (path : List Turn) (site : Site) → IsProgram p → IsSpentSite p bases path site →
+    ensures site { (p : Program) (bases : ℕ) (path : List Turn) (site : RegionSite) → IsProgram p → IsSpentSite p bases path site →
         bases + 2 ≤ 2 ^ (width p (region_of p path) + width p (region_of p path) + length (form_of p (region_of p path)).matrix + 1) }
     ensures columns { (p : Program) (path : List Turn) →
         width p (region_of p path) ≤ length p.columns + length p.columns + (length p.rows + length p.rows) }

@@ -5,31 +5,27 @@
 #![tactic(auto)]
 
 mod trees;
-mod walks;
 
 ghost use Rattle.std.specs.Prelude.{◌≡◌, IfOk, Ok};
-ghost use Rattle.program_law.specs.Program.{bounds};
 ghost use Rattle.program_law.specs.Verdict.{IsTrueOf};
 ghost use Rattle.certificate_law.specs.Good.{IsGood, verdict_of};
 ghost use Rattle.cert_check_law.specs.Check.{checked, answer};
 ghost use Rattle.certificate_law.specs.Fits.{Fits, FitsSquares, FitsTree, IsColumnVector};
-ghost use Rattle.cert_check.specs.Walk.{IsStart, branches, branches_of};
+ghost use Rattle.cert_check.specs.Branches.{IsStart, branches, branches_of};
 ghost use Rattle.certificate_law.specs.declared.Certificate.TheVariants as Of;
 
 use cert_check_law::{Checked, Event};
 use certificate_law::{Certificate, Tree};
-use check_parts::{ray_tested, squares_tested};
-use check_steps::{answered, tested};
+pub use check_lines::check_text;
+use check_nodes::{Walk, answer, best_tested, unbounded_tested, vector_tested};
 use frac_core::{Frac, Memory, Vector};
 use program_data::Program;
 use program_law::Squares;
-use program_model::{form, point_tested, value};
 use program_regions::{Descent, Region};
 use std::alloc::Global;
 use trees::{branch_count, tree_tested};
-use walks::Walk;
 
-// How many branches a certificate's tree has.
+/// How many branches a certificate's tree has.
 fn branches_of(c: &Certificate) -> usize
     ensures { result ≡ branches_of c.now }
 {
@@ -54,37 +50,8 @@ fn optimal_checked(
     requires start { IsStart p.now (branches tree.now) walk.old }
     ensures { result ≡ checked p.now (Of.Optimal x.now v squares.now tree.now) }
 {
-    point_tested(p, walk.region(), x)?;
-    let calculated = answered(value(p, x))?;
-    tested(calculated == v, 4, 0)?;
-    squares_tested(p, squares)?;
+    best_tested(p, walk.region(), x, v, squares.as_slice())?;
     tree_tested(p, &Some(v), tree, walk)
-}
-
-fn unbounded_checked(
-    p: &Program,
-    x: &Vector<Frac>,
-    d: &Vector<Frac>,
-    squares: &Squares,
-    walk: &Walk,
-) -> Result<(), Event>
-    requires point { IsColumnVector p.now x.now }
-    requires ray { IsColumnVector p.now d.now }
-    requires squares { FitsSquares p.now squares.now }
-    requires region { walk.now.region ≡ bounds p.now }
-    ensures { result ≡ checked p.now (Of.Unbounded x.now d.now squares.now) }
-{
-    point_tested(p, walk.region(), x)?;
-    ray_tested(p, d)?;
-    squares_tested(p, squares)
-}
-
-fn not_convex_checked(p: &Program, x: &Vector<Frac>) -> Result<(), Event>
-    requires { IsColumnVector p.now x.now }
-    ensures { result ≡ checked p.now (Of.NotConvex x.now) }
-{
-    let form = form(p, x)?;
-    tested(form.is_negative(), 15, 0)
 }
 
 fn checked(p: &Program, c: &Certificate, walk: &mut Walk) -> Result<(), Event>
@@ -97,19 +64,10 @@ fn checked(p: &Program, c: &Certificate, walk: &mut Walk) -> Result<(), Event>
             optimal_checked(p, x, *v, squares, tree, walk)
         }
         Certificate::Infeasible(tree) => tree_tested(p, &None, tree, walk),
-        Certificate::Unbounded(x, d, squares) => unbounded_checked(p, x, d, squares, walk),
-        Certificate::NotConvex(x) => not_convex_checked(p, x),
-    }
-}
-
-// Accepted, or the first event.
-fn answer(checked: Result<(), Event>) -> Checked
-    ensures { result ≡ answer checked }
-{
-    match checked {
-        Ok(()) => Checked::Accepted,
-        Err(Event::Past(refused)) => Checked::Past(refused),
-        Err(Event::Failed { rule, place }) => Checked::Rejected { rule, place },
+        Certificate::Unbounded(x, d, squares) => {
+            unbounded_tested(p, walk.region(), x, d, squares.as_slice())
+        }
+        Certificate::NotConvex(x) => vector_tested(p, x),
     }
 }
 
@@ -118,7 +76,7 @@ fn answer(checked: Result<(), Event>) -> Checked
 ///
 /// # Errors
 /// `Memory` where it ran out.
-#[tactic(auto, using(crate::proofs::Answered::accepted_is_good, crate::proofs::Answered::accepted_is_true))]
+#[tactic(auto, using(check_nodes::proofs::Answered::accepted_is_good, check_nodes::proofs::Answered::accepted_is_true))]
 pub fn check(alloc: Global, p: &Program, c: &Certificate) -> Result<Checked, Memory>
     requires { Fits p.now c.now }
     ensures answer { IfOk result (λ a. a ≡ answer (checked p.now c.now)) }

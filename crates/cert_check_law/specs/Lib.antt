@@ -6,6 +6,7 @@ pub mod Squares
 pub mod Leaf
 pub mod Tree
 pub mod Ray
+pub mod Heads
 pub mod Check
 pub mod Entries
 pub mod ValueList

@@ -23,6 +23,10 @@ abbrev pub column_at : Program → ℕ → List ℕ
 column_at p j = name_at (names_on p Columns) j
 
 abbrev pub fields_of : Program → Item → List (List ℕ)
+fields_of p items.Optimal = codes "OPTIMAL" ∷ []
+fields_of p items.Infeasible = codes "INFEASIBLE" ∷ []
+fields_of p items.Unbounded = codes "UNBOUNDED" ∷ []
+fields_of p items.NotConvex = codes "NOTCONVEX" ∷ []
 fields_of p (items.Value v) = codes "VALUE" ∷ text_of v ∷ []
 fields_of p (items.Point j v) = codes "POINT" ∷ column_at p j ∷ text_of v ∷ []
 fields_of p (items.Ray j v) = codes "RAY" ∷ column_at p j ∷ text_of v ∷ []
@@ -46,6 +50,10 @@ pub record IsEntry (p : Program) (axis : Axis) (s : Place) (word : CertificateWo
   pub late : least s word ≤ j
 
 abbrev pub Accepted : Program → Place → Item → Type 0
+Accepted p s items.Optimal = ⊥
+Accepted p s items.Infeasible = ⊥
+Accepted p s items.Unbounded = ⊥
+Accepted p s items.NotConvex = ⊥
 Accepted p s (items.Value v) = (may_stand s words.Value ≡ true) × Fits max_part v
 Accepted p s (items.Point j v) = IsEntry p Columns s words.Point j v
 Accepted p s (items.Ray j v) = IsEntry p Columns s words.Ray j v
@@ -66,6 +74,10 @@ pub record HasNames (p : Program) : Type 0 where
   pub filled : (axis : Axis) (j : ℕ) → j < count_on p axis → is_filled (name_at (names_on p axis) j) ≡ true
 
 pub accepted_stands : (p : Program) (s : Place) (item : Item) → Accepted p s item → may_stand s (item_word item) ≡ true
+accepted_stands p s items.Optimal a = absurd a
+accepted_stands p s items.Infeasible a = absurd a
+accepted_stands p s items.Unbounded a = absurd a
+accepted_stands p s items.NotConvex a = absurd a
 accepted_stands p s (items.Value v) a = a.0
 accepted_stands p s (items.Square v) a = a.0
 accepted_stands p s (items.Branch j k) a = a.0

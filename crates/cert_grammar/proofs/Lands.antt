@@ -52,6 +52,13 @@ is_claim_word word = false
 pub no_claim_word : (claim : Claim) (part : Part) (word : CertificateWord) → is_claim_word word ≡ true → can claim part word ≡ false
 no_claim_word claim part word c = grind arith
 
+-- no claim may stand behind the first line
+pub never_claims : (s : Place) (word : CertificateWord) → is_claim_word word ≡ true → may_stand s word ≡ true → ⊥
+never_claims s word c e = clash (can s.claim s.part word) (can_stand s word e) (no_claim_word s.claim s.part word c)
+  where
+    clash : (b : Bool) → b ≡ true → b ≡ false → ⊥
+    clash b e f = cc
+
 -- ---- where a line leads
 
 abbrev pub part_of : CertificateWord → Part

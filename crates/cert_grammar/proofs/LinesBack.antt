@@ -32,7 +32,7 @@ use Rattle.cert_grammar.specs.Faults.{Tests, first_of, allows, is_allowed, is_ea
 use Rattle.cert_grammar.specs.Items.{item_of, item_with, place, number}
 use Rattle.cert_fields.proofs.NameLemmas.{count_names}
 use Rattle.cert_fields.proofs.NumbersBack.{IsTextOf, number_back}
-use Rattle.cert_grammar.proofs.Lands.{can, can_stand, is_claim_word, no_claim_word}
+use Rattle.cert_grammar.proofs.Lands.{is_claim_word, never_claims}
 use Rattle.cert_grammar.proofs.ItemFields.{fields_of, IsEntry, Accepted}
 
 -- ---- no test holds
@@ -257,10 +257,7 @@ whole_text : (v : ℚ) → (v.den == 1) ≡ true → text_of v ≡ signed_decima
 whole_text v e = rw e refl
 
 no_claim : (s : Place) (w : CertificateWord) (fs : List (List ℕ)) → is_claim_word w ≡ true → first_of (bare_tests s w fs) ≡ None → ⊥
-no_claim s w fs c e = clash (can s.claim s.part w) (can_stand s w (bare_back s w fs e).stands) (no_claim_word s.claim s.part w c)
-  where
-    clash : (b : Bool) → b ≡ true → b ≡ false → ⊥
-    clash b e f = cc
+no_claim s w fs c e = never_claims s w c (bare_back s w fs e).stands
 
 with_word : (p : Program) (s : Place) (w : CertificateWord) (fs : List (List ℕ)) → first_of (tests p s w fs) ≡ None → IsBack p s (item_with p (Some w) fs) (word_text w ∷ fs)
 with_word p s words.Optimal fs e = absurd (no_claim s words.Optimal fs refl e)

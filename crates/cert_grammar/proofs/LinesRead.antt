@@ -120,6 +120,10 @@ entry_told p axis s word j v make names h =
 
 pub fields_read : (p : Program) (s : Place) (item : Item) → HasNames p → Accepted p s item → IsRead p s item
 unfolding line_fault item_of
+fields_read p s items.Optimal names h = absurd h
+fields_read p s items.Infeasible names h = absurd h
+fields_read p s items.Unbounded names h = absurd h
+fields_read p s items.NotConvex names h = absurd h
 fields_read p s (items.Value v) names h = record { clear = number_clear s words.Value Any (text_of v) v (text_filled v h.1) h.0 (number_read v h.1) refl refl; told = ap items.Value (number_told (text_of v) v (number_read v h.1)) }
 fields_read p s (items.Point j v) names h = record { clear = entry_none p Columns s words.Point j v names h refl; told = entry_told p Columns s words.Point j v items.Point names h }
 fields_read p s (items.Ray j v) names h = record { clear = entry_none p Columns s words.Ray j v names h refl; told = entry_told p Columns s words.Ray j v items.Ray names h }

@@ -7,7 +7,7 @@ use Rattle.cert_grammar.specs.declared.items.Item.{Item}
 use Rattle.cert_grammar.specs.declared.items.Item.TheVariants as items
 use Rattle.cert_grammar.specs.declared.items.Found.{Found}
 use Rattle.cert_grammar.specs.declared.items.Claim.{Claim}
-use Rattle.cert_grammar.specs.declared.items.Claim.TheVariants.{Optimal, Unbounded}
+use Rattle.cert_grammar.specs.declared.items.Claim.TheVariants.{Optimal, Infeasible, Unbounded, NotConvex}
 use Rattle.cert_grammar.specs.declared.grammar.Part.{Part}
 use Rattle.cert_grammar.specs.declared.grammar.Part.TheVariants.{Value, Points, Rays, Directions, Squares, Nodes, LeafPoint, Multipliers, Ended}
 use Rattle.cert_grammar.specs.declared.grammar.Allowed.TheVariants.{Any, NotZero, Positive, Whole}
@@ -62,8 +62,19 @@ shape_of word = Bare
 
 -- ---- the lines
 
+-- the line that claims
+abbrev pub item_of_claim : Claim → Item
+item_of_claim Optimal = items.Optimal
+item_of_claim Infeasible = items.Infeasible
+item_of_claim Unbounded = items.Unbounded
+item_of_claim NotConvex = items.NotConvex
+
 -- the line with a word and what stands behind it
 abbrev pub item_from : CertificateWord → Found → Item
+item_from words.Optimal f = items.Optimal
+item_from words.Infeasible f = items.Infeasible
+item_from words.Unbounded f = items.Unbounded
+item_from words.NotConvex f = items.NotConvex
 item_from words.Value f = items.Value f.number
 item_from words.Point f = items.Point f.place f.number
 item_from words.Ray f = items.Ray f.place f.number
@@ -76,10 +87,14 @@ item_from words.Farkas f = items.Farkas
 item_from words.Cross f = items.Cross f.place
 item_from words.W f = items.W f.place f.number
 item_from words.Y f = items.Y f.place f.number
-item_from word f = items.End
+item_from words.End f = items.End
 
 -- the word of a line
 abbrev pub item_word : Item → CertificateWord
+item_word items.Optimal = words.Optimal
+item_word items.Infeasible = words.Infeasible
+item_word items.Unbounded = words.Unbounded
+item_word items.NotConvex = words.NotConvex
 item_word (items.Value v) = words.Value
 item_word (items.Point j v) = words.Point
 item_word (items.Ray j v) = words.Ray

@@ -1,5 +1,5 @@
 -- What a line says: the first a claim, each other one an item.
-use Rattle.std.specs.Prelude.{ℕ, List, Option, Some, None, Result, Ok, Err, unwrap_or}
+use Rattle.std.specs.Prelude.{◌≢◌, ℕ, ◌<◌, ◌^◌, pos, neg_ℤ, List, length, Option, Some, None, Result, Ok, Err, unwrap_or}
 use Rattle.rational.specs.Rational.{ℚ, zero_ℚ}
 use Rattle.program_law.specs.Program.{Program}
 use Rattle.program_law.specs.Places.{place_of}
@@ -60,3 +60,15 @@ item_with p None fields = items.End
 
 unfoldable pub item_of : Program → List (List ℕ) → Item
 item_of p parts = item_with p (word_of parts) (behind parts)
+
+-- its column or row is one of the program's, and a branch's number isn't -2^127
+abbrev pub IsWithin : Program → Item → Type 0
+IsWithin p (items.Point j v) = j < length p.columns
+IsWithin p (items.Ray j v) = j < length p.columns
+IsWithin p (items.Direction j v) = j < length p.columns
+IsWithin p (items.Coef j v) = j < length p.columns
+IsWithin p (items.Branch j k) = (j < length p.columns) × (k ≢ neg_ℤ (pos (2 ^ 127)))
+IsWithin p (items.Cross j) = j < length p.columns
+IsWithin p (items.W j v) = j < length p.columns
+IsWithin p (items.Y i v) = i < length p.rows
+IsWithin p item = Unit {0}

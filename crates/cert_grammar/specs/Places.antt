@@ -2,6 +2,7 @@
 use Rattle.std.specs.Prelude.{ℕ, ◌+◌, ◌-◌, ◌^◌, ◌≤◌, ◌&&◌, nat_le, Bool, true, false, List, [], ◌∷◌, is_some, unwrap_or}
 use Rattle.mps_tokens.specs.declared.words.CertificateWord.{CertificateWord}
 use Rattle.mps_tokens.specs.declared.words.CertificateWord.TheVariants as words
+use Rattle.certificate_law.specs.Limits.{most_squares, most_branches}
 use Rattle.cert_grammar.specs.declared.items.Item.{Item}
 use Rattle.cert_grammar.specs.declared.items.Item.TheVariants as items
 use Rattle.cert_grammar.specs.declared.items.Claim.{Claim}
@@ -55,8 +56,8 @@ least s word = least_in word s.part s.next
 
 -- it would be the 129th SQUARE or the 20,257th BRANCH
 abbrev pub is_one_too_many : Place → CertificateWord → Bool
-is_one_too_many s words.Square = nat_le 128 s.squares
-is_one_too_many s words.Branch = nat_le 20256 s.branches
+is_one_too_many s words.Square = nat_le most_squares s.squares
+is_one_too_many s words.Branch = nat_le most_branches s.branches
 is_one_too_many s word = false
 
 -- ---- the place after a line

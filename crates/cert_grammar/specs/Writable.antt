@@ -8,6 +8,7 @@ use Rattle.certificate_law.specs.declared.Node.TheVariants as nodes
 use Rattle.certificate_law.specs.declared.Certificate.{Certificate}
 use Rattle.certificate_law.specs.declared.Certificate.TheVariants.{Optimal, Infeasible, Unbounded, NotConvex}
 use Rattle.certificate_law.specs.Fits as certificates
+use Rattle.certificate_law.specs.Limits.{most_squares, most_branches}
 use Rattle.rational.specs.Rational.{ℚ, Fits}
 use Rattle.frac_core.specs.Parts.{max_part}
 
@@ -52,5 +53,5 @@ NumbersFit (NotConvex v) = AllFit v
 -- its lengths, columns and signs are those of a certificate of the program, and its squares and branches are within the limits
 pub record IsWritable (p : Program) (c : Certificate) : Type 0 where
   pub fitting : certificates.Fits p c
-  pub few_squares : length (squares_of c) ≤ 128
-  pub few_branches : branch_count (nodes_of c) ≤ 20256
+  pub few_squares : length (squares_of c) ≤ most_squares
+  pub few_branches : branch_count (nodes_of c) ≤ most_branches

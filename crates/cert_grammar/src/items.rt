@@ -1,7 +1,7 @@
 // The lines of a certificate.
 
 ghost use Rattle.std.specs.Prelude.{◌≡◌};
-ghost use Rattle.cert_grammar.specs.Grammar.{item_word, next_behind, item_from};
+ghost use Rattle.cert_grammar.specs.Grammar.{item_of_claim, item_word, next_behind, item_from};
 
 use frac_core::Frac;
 use mps_tokens::CertificateWord;
@@ -15,9 +15,13 @@ pub enum Claim {
     NotConvex,
 }
 
-/// A line after the first, with its column or row by its place, and its number.
+/// A line, with its column or row by its place, and its number. The first line of a certificate is its claim.
 #[derive(Clone, Copy)]
 pub enum Item {
+    Optimal,
+    Infeasible,
+    Unbounded,
+    NotConvex,
     Value(Frac),
     Point(u32, Frac),
     Ray(u32, Frac),
@@ -42,12 +46,28 @@ pub struct Found {
 }
 
 impl Item {
+    /// The line that claims.
+    pub fn of_claim(claim: Claim) -> Item
+        ensures { result ≡ item_of_claim claim }
+    {
+        match claim {
+            Claim::Optimal => Item::Optimal,
+            Claim::Infeasible => Item::Infeasible,
+            Claim::Unbounded => Item::Unbounded,
+            Claim::NotConvex => Item::NotConvex,
+        }
+    }
+
     /// The line with a word and what stands behind it.
     pub fn of(word: CertificateWord, found: Found) -> Item
         ensures { result ≡ item_from word found }
     {
         let Found { place, number } = found;
         match word {
+            CertificateWord::Optimal => Item::Optimal,
+            CertificateWord::Infeasible => Item::Infeasible,
+            CertificateWord::Unbounded => Item::Unbounded,
+            CertificateWord::NotConvex => Item::NotConvex,
             CertificateWord::Value => Item::Value(number),
             CertificateWord::Point => Item::Point(place, number),
             CertificateWord::Ray => Item::Ray(place, number),
@@ -60,7 +80,7 @@ impl Item {
             CertificateWord::Cross => Item::Cross(place),
             CertificateWord::W => Item::W(place, number),
             CertificateWord::Y => Item::Y(place, number),
-            _ => Item::End,
+            CertificateWord::End => Item::End,
         }
     }
 
@@ -69,6 +89,10 @@ impl Item {
         ensures { result ≡ item_word self.now }
     {
         match self {
+            Item::Optimal => CertificateWord::Optimal,
+            Item::Infeasible => CertificateWord::Infeasible,
+            Item::Unbounded => CertificateWord::Unbounded,
+            Item::NotConvex => CertificateWord::NotConvex,
             Item::Value(_) => CertificateWord::Value,
             Item::Point(_, _) => CertificateWord::Point,
             Item::Ray(_, _) => CertificateWord::Ray,

@@ -35,6 +35,14 @@ pub enum CertKind {
     CertMany,
 }
 
+/// The first line at which a text leaves the grammar, by its number, and how.
+#[derive(Clone, Copy, Debug, PartialEq, Eq, Error)]
+#[error("line {line}: {kind}")]
+pub struct CertFault {
+    pub line: u32,
+    pub kind: CertKind,
+}
+
 /// Why no certificate was read.
 #[derive(Clone, Copy, Debug, PartialEq, Eq, Error)]
 pub enum CertStop {
@@ -50,5 +58,14 @@ impl From<Memory> for CertStop {
 
     fn from(_error: Memory) -> CertStop {
         CertStop::Memory
+    }
+}
+
+impl From<CertFault> for CertStop {
+    ghost from_gives = { λ f e. e ≡ stops.Fault f.line f.kind };
+
+    fn from(fault: CertFault) -> CertStop {
+        let CertFault { line, kind } = fault;
+        CertStop::Fault { line, kind }
     }
 }

@@ -8,5 +8,5 @@ mod places;
 
 pub use grammar::{Allowed, Part, Shape, shape_of};
 pub use items::{Claim, Found, Item};
-pub use kinds::{CertKind, CertStop};
+pub use kinds::{CertFault, CertKind, CertStop};
 pub use places::Place;

@@ -5,6 +5,7 @@ ghost use Rattle.cert_grammar.specs.Places.{start, after, counted, may_stand, pa
 
 use crate::grammar::{Part, follows, is_due};
 use crate::items::{Claim, Item};
+use certificate_law::{MOST_BRANCHES, MOST_SQUARES};
 use mps_tokens::CertificateWord;
 
 /// Where a line stands, by the words of the lines before it, and what they leave for it.
@@ -74,8 +75,8 @@ impl Place {
         ensures { result ≡ is_one_too_many self word }
     {
         match word {
-            CertificateWord::Square => self.squares >= 128,
-            CertificateWord::Branch => self.branches >= 20256,
+            CertificateWord::Square => self.squares >= MOST_SQUARES as u64,
+            CertificateWord::Branch => self.branches >= MOST_BRANCHES as u64,
             _ => false,
         }
     }

@@ -1,7 +1,9 @@
-//! Reads single lines of a certificate's text: the claim of the first, the item of each other one.
+//! Reads the lines of a certificate's text: `CertLines` gives the item of each line, up to the first that leaves the grammar.
 #![tactic(auto)]
 
 mod fields;
 mod line;
+mod lines;
+mod steps;
 
-pub use line::{claim_in, read_line};
+pub use lines::CertLines;

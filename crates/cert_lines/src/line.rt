@@ -15,7 +15,7 @@ use program_data::Program;
 
 /// The claim of the first line, where it has one.
 #[tactic(auto, unfolding(cert_grammar::specs::Items::claim_in))]
-pub fn claim_in(line: &[u8]) -> Option<Claim>
+pub(crate) fn claim_in(line: &[u8]) -> Option<Claim>
     ensures { result ≡ claim_in line.now }
 {
     match certificate_word_of(line)? {
@@ -57,7 +57,7 @@ fn read_found(
 /// # Errors
 /// What is wrong with the line there, of several faults the first kind.
 #[tactic(auto, unfolding(cert_grammar::specs::Faults::line_fault, cert_grammar::specs::Items::item_of))]
-pub fn read_line(p: &Program, place: Place, line: &[u8]) -> Result<Item, CertKind>
+pub(crate) fn read_line(p: &Program, place: Place, line: &[u8]) -> Result<Item, CertKind>
     ensures { ReadsLine p.now place (parts_of line.now) result }
 {
     let Some(word) = certificate_word_of(first_part(line)) else {

@@ -5,7 +5,7 @@ ghost use Rattle.certificate_law.specs.Nodes.{IsOneTree};
 ghost use Rattle.certificate_law.specs.declared.Certificate.TheVariants as certificates;
 ghost use Rattle.program_law.specs.Changes.{zeros};
 ghost use Rattle.cert_text.specs.Drafts.{told};
-ghost use Rattle.cert_text_law.specs.Told.{blank, with_item, certificate_told, IsTreeDue};
+ghost use Rattle.cert_text_law.specs.Told.{blank, with_item, with_claim, certificate_told, IsTreeDue};
 
 use crate::openings::{NodeList, SquareList, put_at};
 use cert_grammar::{Claim, Item};
@@ -17,6 +17,8 @@ use std::alloc::Global;
 /// What the lines so far tell.
 #[derive(Drop)]
 pub(crate) struct Draft {
+    /// What is claimed, `Infeasible` until a line claims.
+    pub claim: Claim,
     pub point: Vector<Frac>,
     pub ray: Vector<Frac>,
     pub direction: Vector<Frac>,
@@ -52,6 +54,7 @@ impl Draft {
         let ray = zeros(alloc, columns)?;
         let direction = zeros(alloc, columns)?;
         Ok(Draft {
+            claim: Claim::Infeasible,
             point,
             ray,
             direction,
@@ -63,7 +66,8 @@ impl Draft {
 
     /// A square is begun.
     fn begin_square(&mut self, alloc: Global, columns: u32, weight: Frac) -> Result<(), Memory>
-        ensures { OnOk result (told self.new ≡ with_item columns 0 (Item.Square weight) (told self.old)) }
+        ensures told { OnOk result (told self.new ≡ with_item columns 0 (Item.Square weight) (told self.old)) }
+        ensures claim { OnOk result (self.new.claim ≡ self.old.claim) }
     {
         let coef = zeros(alloc, columns)?;
         self.squares.push(Square { weight, coef })
@@ -71,7 +75,8 @@ impl Draft {
 
     /// A BOUND leaf is begun.
     fn begin_bound(&mut self, alloc: Global, columns: u32, rows: u32) -> Result<(), Memory>
-        ensures { OnOk result (told self.new ≡ with_item columns rows Item.Bound (told self.old)) }
+        ensures told { OnOk result (told self.new ≡ with_item columns rows Item.Bound (told self.old)) }
+        ensures claim { OnOk result (self.new.claim ≡ self.old.claim) }
     {
         let w = zeros(alloc, columns)?;
         let y = zeros(alloc, rows)?;
@@ -80,7 +85,8 @@ impl Draft {
 
     /// A FARKAS leaf is begun.
     fn begin_farkas(&mut self, alloc: Global, rows: u32) -> Result<(), Memory>
-        ensures { OnOk result (told self.new ≡ with_item 0 rows Item.Farkas (told self.old)) }
+        ensures told { OnOk result (told self.new ≡ with_item 0 rows Item.Farkas (told self.old)) }
+        ensures claim { OnOk result (self.new.claim ≡ self.old.claim) }
     {
         let y = zeros(alloc, rows)?;
         self.nodes.push(Node::Farkas(y))
@@ -94,9 +100,14 @@ impl Draft {
         rows: u32,
         item: Item,
     ) -> Result<(), Memory>
-        ensures { OnOk result (told self.new ≡ with_item columns rows item (told self.old)) }
+        ensures told { OnOk result (told self.new ≡ with_item columns rows item (told self.old)) }
+        ensures claim { OnOk result (self.new.claim ≡ with_claim item self.old.claim) }
     {
         match item {
+            Item::Optimal => self.claim = Claim::Optimal,
+            Item::Infeasible => self.claim = Claim::Infeasible,
+            Item::Unbounded => self.claim = Claim::Unbounded,
+            Item::NotConvex => self.claim = Claim::NotConvex,
             Item::Value(value) => self.value = value,
             Item::Point(column, value) => put_at(&mut self.point, column, value),
             Item::Ray(column, value) => put_at(&mut self.ray, column, value),
@@ -115,11 +126,12 @@ impl Draft {
     }
 
     /// The certificate that is told.
-    pub(crate) fn finish(self, claim: Claim) -> Result<Certificate, Memory>
-        requires { IsTreeDue claim self.nodes }
-        ensures { IfOk result (λ c. c ≡ certificate_told claim (told self)) }
+    pub(crate) fn finish(self) -> Result<Certificate, Memory>
+        requires { IsTreeDue self.claim self.nodes }
+        ensures { IfOk result (λ c. c ≡ certificate_told self.claim (told self)) }
     {
         let Draft {
+            claim,
             point,
             ray,
             direction,

@@ -1,6 +1,6 @@
 -- A text that is read is that of items which are accepted one after another, and tell a certificate that can be written.
-use Rattle.std.proofs.Common.{◌≡◌, ◌≢◌, ℕ, zero, suc, ◌+◌, ◌*◌, ◌^◌, ◌<◌, ◌≤◌, Bool, true, false, List, [], ◌∷◌, ◌++◌, length, Option, Some, None, Result, Ok, Err, refl, sym, ap, ◌∙◌, subst, arith, lit<, append_assoc, ℤ, pos}
-use Rattle.std.specs.Prelude.{◌==◌, nat_le, unsigned_abs, neg_ℤ, IfOk}
+use Rattle.std.proofs.Common.{◌≡◌, ◌≢◌, ℕ, zero, suc, ◌+◌, ◌*◌, ◌^◌, ◌<◌, ◌≤◌, Bool, true, false, List, [], ◌∷◌, ◌++◌, length, Option, Some, None, Ok, refl, sym, ap, ◌∙◌, subst, arith, lit<, append_assoc, ℤ, pos}
+use Rattle.std.specs.Prelude.{◌==◌, nat_le, unsigned_abs, neg_ℤ}
 use Rattle.std.specs.List.{flat_map, join_with_byte, AllByRecursion}
 use Rattle.std.proofs.lemmas.Bool.{eqb-true}
 use Rattle.std.proofs.lemmas.Bool.Decides.{nat_tests}
@@ -32,8 +32,8 @@ use Rattle.cert_grammar.specs.Faults.{line_fault}
 use Rattle.cert_grammar.specs.Items.{item_of}
 use Rattle.cert_text_law.specs.Told.{Told, blank, with_item, with_coef, with_w, with_y, on_last, told_by, certificate_told}
 use Rattle.cert_grammar.specs.Items.{claim_in}
-use Rattle.cert_text_law.specs.Reading.{Answer, read_on, read_of, read_claimed, read_pieces, Reads}
-use Rattle.cert_grammar.specs.declared.kinds.CertStop.{CertStop}
+use Rattle.cert_text_law.specs.Reading.{Answer, read_on, read_of, read_claimed, read_pieces}
+use Rattle.cert_text_law.specs.Items.{unless, items_on}
 use Rattle.cert_text_law.specs.History.{Tracks}
 use Rattle.cert_grammar.specs.Writable.{IsWritable, branch_count}
 use Rattle.cert_text_law.proofs.Histories.{tracks, is_tree, start_tracked}
@@ -41,6 +41,7 @@ use Rattle.cert_grammar.proofs.Lands.{is_optimal, can_stand, bound_claim, lands,
 use Rattle.cert_grammar.proofs.ItemFields.{fields_of, Accepted, accepted_stands}
 use Rattle.cert_text_law.proofs.ItemRuns.{MayBound}
 use Rattle.cert_grammar.proofs.LinesBack.{line_back}
+use Rattle.cert_text_law.proofs.Readings.{listed_step}
 use Rattle.cert_text_law.proofs.TextsRead.{Runs, after_all, tell_all, item_text}
 
 pub record IsAccepted (p : Program) (claim : Claim) (earlier : List Item) (pieces : List (List ℕ)) (c : Certificate) : Type 0 where
@@ -49,6 +50,7 @@ pub record IsAccepted (p : Program) (claim : Claim) (earlier : List Item) (piece
   pub ends : is_ended (after_all (place_after claim earlier) later).part ≡ true
   pub told : c ≡ certificate_told claim (tell_all p (told_by p earlier) later)
   pub text : join_with_byte 10 pieces ≡ flat_map (item_text p) later
+  pub listed : items_on p claim earlier pieces ≡ later
 
 last_piece : (p : Program) (claim : Claim) (n : ℕ) (earlier : List Item) (piece : List ℕ) (c : Certificate) → read_on p claim n earlier (piece ∷ []) ≡ Ok c → IsAccepted p claim earlier (piece ∷ []) c
 last_piece p claim n earlier piece c e = go (is_ended (place_after claim earlier).part) (length piece == 0) refl refl e
@@ -66,7 +68,7 @@ last_piece p claim n earlier piece c e = go (is_ended (place_after claim earlier
     go : (b t : Bool) → is_ended (place_after claim earlier).part ≡ b → (length piece == 0) ≡ t → read_on p claim n earlier (piece ∷ []) ≡ Ok c → IsAccepted p claim earlier (piece ∷ []) c
     go true true f g e =
         let here : read_on p claim n earlier (piece ∷ []) ≡ Ok (certificate_told claim (told_by p earlier)) = rw (f, g) refl in
-        record { later = []; runs = tt; ends = f; told = same c (certificate_told claim (told_by p earlier)) (read_on p claim n earlier (piece ∷ [])) e here; text = none piece g }
+        record { later = []; runs = tt; ends = f; told = same c (certificate_told claim (told_by p earlier)) (read_on p claim n earlier (piece ∷ [])) e here; text = none piece g; listed = rw f refl }
     go true false f g e = absurd (let bad = rw (f, g) at e in cc)
     go false t f g e = absurd (let bad = rw f at e in cc)
 
@@ -92,6 +94,9 @@ one_more p claim n earlier piece next pieces c rest e = go (is_ended (place_afte
           text = ap (λ (l : List ℕ). l ++ 10 ∷ join_with_byte 10 (next ∷ pieces)) line
               ∙ ap (λ (l : List ℕ). join_with_byte 32 (fields_of p item) ++ 10 ∷ l) more.text
               ∙ sym (append_assoc (join_with_byte 32 (fields_of p item)) (10 ∷ []) (flat_map (item_text p) more.later));
+          listed = listed_step p claim earlier piece next pieces f
+              ∙ ap (λ o. unless o (item ∷ items_on p claim (item ∷ earlier) (next ∷ pieces))) g
+              ∙ ap (λ (l : List Item). item ∷ l) more.listed;
         }
 
 pub accepts : (p : Program) (claim : Claim) (n : ℕ) (earlier : List Item) (pieces : List (List ℕ)) (c : Certificate) → read_on p claim n earlier pieces ≡ Ok c → IsAccepted p claim earlier pieces c
@@ -258,7 +263,7 @@ y_kind p j v = record { fits = fits; branches = branches; bound = bound }
     bound n h = h
 
 -- no branch number is -2^127
-in_range : (k : ℤ) → unsigned_abs k ≤ max_part → k ≢ neg_ℤ (pos (2 ^ 127))
+pub in_range : (k : ℤ) → unsigned_abs k ≤ max_part → k ≢ neg_ℤ (pos (2 ^ 127))
 in_range k h e = too_large (subst (λ (k : ℤ). unsigned_abs k ≤ max_part) e h)
   where
     too_large : unsigned_abs (neg_ℤ (pos (2 ^ 127))) ≤ max_part → ⊥
@@ -387,19 +392,28 @@ claimed_writable p claim n pieces c e =
     let a = accepts p claim n [] pieces c e in
     subst (IsWritable p) (sym a.told) (writable p claim (after_all (start claim) a.later) (tell_all p (blank (length p.columns)) a.later) (good_all p claim (start claim) (blank (length p.columns)) a.later a.runs (good_start p claim)) a.ends)
 
+-- a text that is read has a line that claims, and behind it those that tell the certificate
+pub record IsReadAs (p : Program) (n : ℕ) (text : List ℕ) (c : Certificate) : Type 0 where
+  pub claim : Claim
+  pub first : List ℕ
+  pub next : List ℕ
+  pub others : List (List ℕ)
+  pub pieces_are : pieces_of text ≡ first ∷ next ∷ others
+  pub claims : claim_in first ≡ Some claim
+  pub tells : read_on p claim (n + 1) [] (next ∷ others) ≡ Ok c
+
+pub read_as : (p : Program) (n : ℕ) (text : List ℕ) (c : Certificate) → read_of p n text ≡ Ok c → IsReadAs p n text c
+read_as p n text c e = by_pieces (pieces_of text) refl e
+  where
+    by_claim : (o : Option Claim) (first next : List ℕ) (others : List (List ℕ)) → pieces_of text ≡ first ∷ next ∷ others → claim_in first ≡ o → read_claimed p n o (next ∷ others) ≡ Ok c → IsReadAs p n text c
+    by_claim None first next others pieces claims e = absurd cc
+    by_claim (Some claim) first next others pieces claims e = record { claim = claim; first = first; next = next; others = others; pieces_are = pieces; claims = claims; tells = e }
+
+    by_pieces : (pieces : List (List ℕ)) → pieces_of text ≡ pieces → read_pieces p n pieces ≡ Ok c → IsReadAs p n text c
+    by_pieces [] pieces e = absurd cc
+    by_pieces (first ∷ []) pieces e = absurd cc
+    by_pieces (first ∷ next ∷ others) pieces e = by_claim (claim_in first) first next others pieces refl e
+
 -- a certificate that is read can be written
 pub read_writable : (p : Program) (n : ℕ) (text : List ℕ) (c : Certificate) → read_of p n text ≡ Ok c → IsWritable p c
-read_writable p n text c e = by_pieces (pieces_of text) e
-  where
-    by_claim : (o : Option Claim) (pieces : List (List ℕ)) → read_claimed p n o pieces ≡ Ok c → IsWritable p c
-    by_claim None pieces e = absurd cc
-    by_claim (Some claim) pieces e = claimed_writable p claim (n + 1) pieces c e
-
-    by_pieces : (pieces : List (List ℕ)) → read_pieces p n pieces ≡ Ok c → IsWritable p c
-    by_pieces [] e = absurd cc
-    by_pieces (first ∷ []) e = absurd cc
-    by_pieces (first ∷ next ∷ pieces) e = by_claim (claim_in first) (next ∷ pieces) e
-
-pub all_writable : (p : Program) (n : ℕ) (text : List ℕ) (r : Result Certificate CertStop) → Reads (read_of p n text) r → IfOk r (λ c. IsWritable p c)
-all_writable p n text (Ok c) h = read_writable p n text c h
-all_writable p n text (Err stop) h = tt
+read_writable p n text c e = let r = read_as p n text c e in claimed_writable p r.claim (n + 1) (r.next ∷ r.others) c r.tells

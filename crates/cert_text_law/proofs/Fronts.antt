@@ -39,7 +39,8 @@ use Rattle.cert_text_law.proofs.TextsRead.{Runs, after_all, tell_all, item_text,
 use Rattle.cert_text_law.proofs.ItemRuns.{after_append, runs_append, some_wanted}
 use Rattle.cert_grammar.proofs.LinesBack.{line_back}
 use Rattle.cert_text_law.proofs.Accepts.{good_all, good_start, writable}
-use Rattle.cert_text_law.proofs.ReadBack.{Finishes, claim_word, items_of, read_back}
+use Rattle.cert_text_law.proofs.ReadBack.{Finishes, claim_word, read_back}
+use Rattle.cert_text_law.specs.CertificateItems.{items_of}
 use Rattle.cert_text_law.proofs.ToldFits.{zero_fits, told_fits}
 use Rattle.cert_text_law.proofs.Readings.{step, claimed, unclaimed, not_last, read_ended}
 use Rattle.cert_text_law.proofs.ShownRuns.{later_is}

@@ -1,10 +1,9 @@
--- One line more.
-use Rattle.std.proofs.Common.{◌≡◌, ℕ, zero, suc, ◌+◌, ◌-◌, ◌<◌, true, false, List, [], ◌∷◌, ◌++◌, length, Option, Some, None, refl, sym, ap, ◌∙◌, subst, arith, ℤ}
+-- The tree, one line more.
+use Rattle.std.proofs.Common.{◌≡◌, ℕ, zero, suc, ◌+◌, ◌-◌, ◌<◌, true, false, List, [], ◌∷◌, ◌++◌, Option, Some, None, refl, sym, ap, ◌∙◌, arith, ℤ}
 use Rattle.rational.specs.Rational.{ℚ}
 use Rattle.program_law.specs.Changes.{zeros}
 use Rattle.std.specs.Prelude.{◌==◌}
 use Rattle.std.proofs.lemmas.Bool.{eqb-true}
-use Rattle.program_law.specs.Program.{Program}
 use Rattle.certificate_law.specs.declared.Node.{Node}
 use Rattle.certificate_law.specs.declared.Node.TheVariants as nodes
 use Rattle.certificate_law.specs.Wanted.{with_node, wanted_after}
@@ -16,15 +15,10 @@ use Rattle.cert_grammar.specs.declared.items.Claim.{Claim}
 use Rattle.cert_grammar.specs.declared.items.Claim.TheVariants.{Optimal, Infeasible, Unbounded, NotConvex}
 use Rattle.cert_grammar.specs.declared.places.Place.{Place}
 use Rattle.cert_grammar.specs.Grammar.{item_word}
-use Rattle.cert_grammar.specs.Places.{after, may_stand, is_ended, start, IsCounted}
-use Rattle.cert_grammar.specs.Faults.{line_fault}
-use Rattle.cert_grammar.specs.Items.{item_of}
-use Rattle.cert_text_law.specs.Told.{Told, with_item, with_w, with_y, on_last, blank, IsTreeDue}
-use Rattle.cert_text_law.specs.History.{IsTracked, Tracks, IsHeld}
-use Rattle.cert_grammar.proofs.Lands.{second_true, can, is_wanted, lands, after_is}
-use Rattle.cert_grammar.proofs.ItemFields.{accepted_stands}
-use Rattle.cert_grammar.proofs.LinesBack.{line_back}
-use Rattle.cert_grammar.proofs.Counts.{counts, start_counted}
+use Rattle.cert_grammar.specs.Places.{may_stand, is_ended, start}
+use Rattle.cert_text_law.specs.Told.{Told, with_item, with_w, with_y, on_last, IsTreeDue}
+use Rattle.cert_text_law.specs.History.{IsTracked, Tracks}
+use Rattle.cert_grammar.proofs.Lands.{second_true, can, is_wanted, lands, never_claims}
 
 -- ---- the tree
 
@@ -75,6 +69,10 @@ node_track : (s t : Place) (ns : List Node) (n : Node) (w : ℕ) → t.wanted �
 node_track s t ns n w e f more h = record { wanted = one_node ns n s.wanted w h.wanted more ∙ ap (λ n. Some n) (sym e); done = λ g. absurd (cc (f, g)) }
 
 track : (columns rows : ℕ) (s : Place) (d : Told) (item : Item) → may_stand s (item_word item) ≡ true → IsTracked s d.nodes → IsTracked (lands s item) (with_item columns rows item d).nodes
+track c r s d items.Optimal m t = absurd (never_claims s words.Optimal refl m)
+track c r s d items.Infeasible m t = absurd (never_claims s words.Infeasible refl m)
+track c r s d items.Unbounded m t = absurd (never_claims s words.Unbounded refl m)
+track c r s d items.NotConvex m t = absurd (never_claims s words.NotConvex refl m)
 track c r s d (items.Branch j k) m t = node_track s (lands s (items.Branch j k)) d.nodes (nodes.Branch j k) (s.wanted + 1) refl refl (branch_more j k s.wanted (is_wanted s words.Branch refl m)) t
 track c r s d items.Bound m t = node_track s (lands s items.Bound) d.nodes (nodes.Bound (zeros c) (zeros r)) (s.wanted - 1) refl refl (bound_less (zeros c) (zeros r) s.wanted (is_wanted s words.Bound refl m)) t
 track c r s d items.Farkas m t = node_track s (lands s items.Farkas) d.nodes (nodes.Farkas (zeros r)) (s.wanted - 1) refl refl (farkas_less (zeros r) s.wanted (is_wanted s words.Farkas refl m)) t
@@ -96,35 +94,10 @@ is_tree Infeasible s ns t e = whole ns (t.wanted ∙ ap (λ n. Some n) (t.done e
 is_tree Unbounded s ns t e = tt
 is_tree NotConvex s ns t e = tt
 
--- ---- what is held
+-- ---- before the first item
 
 pub start_tracked : (claim : Claim) → Tracks claim (start claim) []
 start_tracked Optimal = record { wanted = refl; done = λ e. absurd cc }
 start_tracked Infeasible = record { wanted = refl; done = λ e. absurd cc }
 start_tracked Unbounded = tt
 start_tracked NotConvex = tt
-
-pub begun : (p : Program) (claim : Claim) (s : Place) (d : Told) → s ≡ start claim → d ≡ blank (length p.columns) → IsHeld p claim [] s d
-begun p claim s d e f =
-    let P : Place → Type 0 = λ s. IsCounted 0 s in
-    let Q : Place → Type 0 = λ s. Tracks claim s d.nodes in
-    let R : List Node → Type 0 = λ ns. Tracks claim (start claim) ns in
-    record { place = e; draft = f; counted = subst P (sym e) (start_counted claim); tracked = subst Q (sym e) (subst R (sym (ap (λ (d : Told). d.nodes) f)) (start_tracked claim)) }
-
-pub held_more : (p : Program) (claim : Claim) (earlier : List Item) (s t : Place) (d e : Told) (parts : List (List ℕ)) (item : Item) → IsHeld p claim earlier s d → line_fault p s parts ≡ None → item_of p parts ≡ item
-    → t ≡ after s item → e ≡ with_item (length p.columns) (length p.rows) item d → IsHeld p claim (item_of p parts ∷ earlier) t e
-held_more p claim earlier s t d e parts item h none is place draft =
-    let same = sym is in
-    let it = item_of p parts in
-    let may = accepted_stands p s it (line_back p s parts none).accepted in
-    let s' : t ≡ after s it = place ∙ ap (after s) same in
-    let d' : e ≡ with_item (length p.columns) (length p.rows) it d = draft ∙ ap (λ i. with_item (length p.columns) (length p.rows) i d) same in
-    let P : Place → Type 0 = λ s. IsCounted (suc (length earlier)) s in
-    let Q : Place → Type 0 = λ s. Tracks claim s e.nodes in
-    let R : Told → Type 0 = λ e. Tracks claim (lands s it) e.nodes in
-    record {
-      place = s' ∙ ap (λ s. after s it) h.place;
-      draft = d' ∙ ap (λ d. with_item (length p.columns) (length p.rows) it d) h.draft;
-      counted = subst P (sym s') (counts (length earlier) s it h.counted);
-      tracked = subst Q (sym (s' ∙ after_is s it may)) (subst R (sym d') (tracks claim (length p.columns) (length p.rows) s d it may h.tracked));
-    }

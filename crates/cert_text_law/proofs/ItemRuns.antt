@@ -27,25 +27,8 @@ use Rattle.cert_grammar.specs.Places.{at, may_stand, least, least_in, is_ended}
 use Rattle.cert_grammar.specs.Writable.{branch_count, NodeFits}
 use Rattle.cert_grammar.proofs.Lands.{is_optimal, can, part_of, lands, unended, end_node, end_bound, nodes_end, coef_square, w_y, ends_too, y_least}
 use Rattle.cert_grammar.proofs.ItemFields.{IsEntry, Accepted}
+use Rattle.cert_text_law.specs.CertificateItems.{entries, square_items, node_items}
 use Rattle.cert_text_law.proofs.TextsRead.{Runs, after_all}
-
--- ---- the items
-
-abbrev pub entry_items : (ℕ → ℚ → Item) → ℕ → ℚ → List Item
-entry_items make j v = if is_zero v then [] else make j v ∷ []
-
-abbrev pub entries : (ℕ → ℚ → Item) → ℕ → List ℚ → List Item
-entries make j [] = []
-entries make j (v ∷ vs) = entry_items make j v ++ entries make (suc j) vs
-
-abbrev pub square_items : Square → List Item
-square_items s = items.Square s.weight ∷ entries items.Coef 0 s.coef
-
-abbrev pub node_items : Node → List Item
-node_items (nodes.Branch j k) = items.Branch j k ∷ []
-node_items (nodes.Bound w y) = items.Bound ∷ (entries items.W 0 w ++ entries items.Y 0 y)
-node_items (nodes.Farkas y) = items.Farkas ∷ entries items.Y 0 y
-node_items (nodes.Cross j) = items.Cross j ∷ []
 
 -- ---- one run behind another
 

@@ -18,7 +18,7 @@ use Rattle.cert_grammar.specs.declared.items.Item.TheVariants as items
 use Rattle.cert_text_law.specs.Told.{Told, with_item, with_coef, with_w, with_y}
 use Rattle.cert_text_law.proofs.LastOf.{on_last-append}
 use Rattle.cert_text_law.proofs.TextsRead.{tell_all}
-use Rattle.cert_text_law.proofs.ItemRuns.{entries, square_items, node_items}
+use Rattle.cert_text_law.specs.CertificateItems.{entries, square_items, node_items}
 
 pub tell_append : (p : Program) (d : Told) (xs ys : List Item) → tell_all p d (xs ++ ys) ≡ tell_all p (tell_all p d xs) ys
 tell_append p d [] ys = refl

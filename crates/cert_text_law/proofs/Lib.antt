@@ -12,3 +12,5 @@ pub mod ShownRuns
 pub mod TextBack
 pub mod ToldFits
 pub mod Fronts
+pub mod Nexts
+pub mod Collected

@@ -36,32 +36,18 @@ use Rattle.cert_fields.proofs.NameLemmas.{count_names}
 use Rattle.cert_grammar.proofs.Lands.{is_optimal, is_unbounded, can, lands, unended, point_square, point_ray, ray_square, ends_too, ray_least}
 use Rattle.cert_grammar.proofs.ItemFields.{fields_of}
 use Rattle.cert_text_law.proofs.TextsRead.{IsClear, Runs, after_all, tell_all, item_text, line_pieces, run_read}
-use Rattle.cert_text_law.proofs.ItemRuns.{entries, square_items, node_items, after_append, runs_append, entries_run, point_lists, ray_lists, direction_lists, itself, IsGoodSquare, squares_run, MayBound, nodes_run}
+use Rattle.cert_text_law.proofs.ItemRuns.{after_append, runs_append, entries_run, point_lists, ray_lists, direction_lists, itself, IsGoodSquare, squares_run, MayBound, nodes_run}
+use Rattle.cert_text_law.specs.CertificateItems.{entries, square_items, node_items, items_of, claim_of}
 use Rattle.cert_text_law.proofs.ItemTells.{tell_append, tell_list, tell_squares, tell_nodes}
 use Rattle.cert_text_law.proofs.Readings.{claimed}
 
--- ---- the items of a certificate
-
-abbrev pub items_of : Certificate → List Item
-items_of (certificates.Optimal x v squares tree) =
-    items.Value v ∷ (entries items.Point 0 x ++ (flat_map square_items squares ++ (flat_map node_items tree ++ items.End ∷ [])))
-items_of (certificates.Infeasible tree) = flat_map node_items tree ++ items.End ∷ []
-items_of (certificates.Unbounded x d squares) = entries items.Point 0 x ++ (entries items.Ray 0 d ++ (flat_map square_items squares ++ items.End ∷ []))
-items_of (certificates.NotConvex v) = entries items.Direction 0 v ++ items.End ∷ []
-
-abbrev pub claim_of : Certificate → Claim
-claim_of (certificates.Optimal x v squares tree) = Optimal
-claim_of (certificates.Infeasible tree) = Infeasible
-claim_of (certificates.Unbounded x d squares) = Unbounded
-claim_of (certificates.NotConvex v) = NotConvex
+-- ---- their lines
 
 abbrev pub claim_word : Claim → List ℕ
 claim_word Optimal = codes "OPTIMAL"
 claim_word Infeasible = codes "INFEASIBLE"
 claim_word Unbounded = codes "UNBOUNDED"
 claim_word NotConvex = codes "NOTCONVEX"
-
--- ---- their lines
 
 abbrev fields : Program → List Item → Lines
 fields p is = map (fields_of p) is

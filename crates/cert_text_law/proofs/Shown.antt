@@ -15,7 +15,7 @@ use Rattle.certificate_law.specs.Fits.{FitsNode}
 use Rattle.cert_grammar.specs.declared.items.Item.{Item}
 use Rattle.cert_grammar.specs.declared.items.Item.TheVariants as items
 use Rattle.cert_text_law.specs.Told.{with_coef, with_w, with_y, on_last}
-use Rattle.cert_text_law.proofs.ItemRuns.{entry_items, entries, square_items, node_items}
+use Rattle.cert_text_law.specs.CertificateItems.{entry_items, entries, square_items, node_items}
 
 -- ---- lists with nothing from a place on
 

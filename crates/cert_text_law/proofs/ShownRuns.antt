@@ -22,8 +22,7 @@ use Rattle.mps_tokens.specs.declared.words.CertificateWord.TheVariants as words
 use Rattle.cert_grammar.proofs.Lands.{is_optimal, is_unbounded, can, can_stand, is_wanted, lands, is_amid, is_value_word, is_node_word, part_of, is_ray_part, is_square_part, is_leaf_part, amid_part, value_part, point_part, ray_part, vector_part, square_part, coef_part, w_part, leaf_part}
 use Rattle.cert_grammar.proofs.ItemFields.{Accepted, accepted_stands}
 use Rattle.cert_text_law.proofs.TextsRead.{Runs, after_all, tell_all}
-use Rattle.cert_text_law.proofs.ItemRuns.{entries, square_items, node_items}
-use Rattle.cert_text_law.proofs.ReadBack.{items_of}
+use Rattle.cert_text_law.specs.CertificateItems.{entries, square_items, node_items, items_of}
 use Rattle.cert_text_law.proofs.Accepts.{IsGood, good_more, good_start}
 use Rattle.cert_text_law.proofs.Shown.{AllZero, ZeroFrom, zeros_zero, none_entries, put_first, put_zero, LastCoef, coef_pushed, square_pushed, coef_zero, coef_put, LastW, LastY, w_put, y_put, w_next, y_next, w_to_y, bound_begun, farkas_begun, bound_pushed, farkas_pushed, node_pushed}
 
@@ -255,6 +254,10 @@ value_text claim d e v done none optimal value empty =
 
 told_more : (p : Program) (claim : Claim) (s : Place) (d : Told) (done : List Item) (item : Item) → Accepted p s item → IsShown p claim s d done
     → IsTold claim (lands s item) (with_item (length p.columns) (length p.rows) item d) (done ++ item ∷ [])
+told_more p claim s d done items.Optimal a h = absurd a
+told_more p claim s d done items.Infeasible a h = absurd a
+told_more p claim s d done items.Unbounded a h = absurd a
+told_more p claim s d done items.NotConvex a h = absurd a
 told_more p claim s d done (items.Value v) a h =
     let e = value_part claim s.part (by_claim claim s words.Value h.good.claim_is a.0) in
     let empty : IsEmpty d = subst (λ part. Opens part s.next d) e h.told.opens in
@@ -418,6 +421,10 @@ unused_more claim c r d (items.Ray j v) has h = record { point = h.point; ray = 
 unused_more claim c r d (items.Direction j v) has h = record { point = h.point; ray = h.ray; direction = λ f. clash (has_directions claim) has f; squares = h.squares; nodes_are = h.nodes_are }
 unused_more claim c r d (items.Square v) has h = record { point = h.point; ray = h.ray; direction = h.direction; squares = λ f. clash (has_points claim) has f; nodes_are = h.nodes_are }
 unused_more claim c r d (items.Coef j v) has h = record { point = h.point; ray = h.ray; direction = h.direction; squares = λ f. clash (has_points claim) has f; nodes_are = h.nodes_are }
+unused_more claim c r d items.Optimal has h = h
+unused_more claim c r d items.Infeasible has h = h
+unused_more claim c r d items.Unbounded has h = h
+unused_more claim c r d items.NotConvex has h = h
 unused_more claim c r d items.End has h = h
 unused_more claim c r d item has h = record { point = h.point; ray = h.ray; direction = h.direction; squares = h.squares; nodes_are = λ f. clash (has_nodes claim) has f }
 

@@ -1,5 +1,5 @@
 -- A text that is read is the text of its certificate.
-use Rattle.std.proofs.Common.{◌≡◌, ℕ, ◌+◌, List, [], ◌∷◌, ◌++◌, length, Option, Some, None, Result, Ok, Err, refl, sym, ap, ◌∙◌, append_assoc}
+use Rattle.std.proofs.Common.{◌≡◌, ℕ, ◌+◌, List, [], ◌∷◌, ◌++◌, length, Option, Some, None, Ok, refl, sym, ap, ◌∙◌, append_assoc}
 use Rattle.std.specs.List.{flat_map, join_with_byte}
 use Rattle.std.proofs.lemmas.List.Splits.{join_with_byte-slice_split}
 use Rattle.program_law.specs.Program.{Program}
@@ -11,18 +11,18 @@ use Rattle.mps_tokens.specs.Cases.{named}
 use Rattle.cert_grammar.specs.declared.items.Item.{Item}
 use Rattle.cert_grammar.specs.declared.items.Claim.{Claim}
 use Rattle.cert_grammar.specs.declared.items.Claim.TheVariants.{Optimal, Infeasible, Unbounded, NotConvex}
-use Rattle.cert_fields.specs.Parts.{pieces_of}
 use Rattle.cert_grammar.specs.Text.{line_text, lines_text, certificate_text}
 use Rattle.cert_text_law.specs.Told.{Told, blank, certificate_told}
 use Rattle.cert_grammar.specs.Items.{claim_with, claim_in}
-use Rattle.cert_text_law.specs.Reading.{read_claimed, read_pieces, read_on, read_of, Reads}
-use Rattle.cert_grammar.specs.declared.kinds.CertStop.{CertStop}
-use Rattle.std.specs.Prelude.{IfOk}
+use Rattle.cert_text_law.specs.Reading.{read_on, read_of}
 use Rattle.cert_grammar.specs.Writable.{IsWritable}
 use Rattle.cert_grammar.proofs.LinesBack.{word_back}
 use Rattle.cert_text_law.proofs.TextsRead.{item_text, tell_all}
-use Rattle.cert_text_law.proofs.ReadBack.{items_of, claim_of, claim_word, all_fields, lines_of_items}
-use Rattle.cert_text_law.proofs.Accepts.{accepts, read_writable}
+use Rattle.cert_text_law.proofs.ReadBack.{claim_word, all_fields, lines_of_items}
+use Rattle.cert_text_law.specs.CertificateItems.{items_of, claim_of, certificate_items}
+use Rattle.cert_text_law.specs.Items.{items_on, items_claimed, items_in, text_items}
+use Rattle.cert_grammar.specs.Grammar.{item_of_claim}
+use Rattle.cert_text_law.proofs.Accepts.{IsReadAs, accepts, read_as, read_writable}
 use Rattle.cert_text_law.proofs.ShownRuns.{later_is}
 
 pub claim_back : (line : List ℕ) (claim : Claim) → claim_in line ≡ Some claim → line ≡ claim_word claim
@@ -64,19 +64,24 @@ claimed_text p claim n first pieces c writable named_is e =
     ∙ append_assoc (claim_word claim) (10 ∷ []) (join_with_byte 10 pieces)
     ∙ ap (λ (w : List ℕ). w ++ 10 ∷ join_with_byte 10 pieces) (sym (claim_back first claim named_is))
 
-by_claim : (p : Program) (n : ℕ) (c : Certificate) → IsWritable p c → (o : Option Claim) (first next : List ℕ) (pieces : List (List ℕ)) → claim_in first ≡ o → read_claimed p n o (next ∷ pieces) ≡ Ok c
-    → certificate_text p c ≡ join_with_byte 10 (first ∷ next ∷ pieces)
-by_claim p n c w None first next pieces f e = absurd cc
-by_claim p n c w (Some claim) first next pieces f e = claimed_text p claim (n + 1) first (next ∷ pieces) c w f e
-
-by_pieces : (p : Program) (n : ℕ) (c : Certificate) → IsWritable p c → (pieces : List (List ℕ)) → read_pieces p n pieces ≡ Ok c → certificate_text p c ≡ join_with_byte 10 pieces
-by_pieces p n c w [] e = absurd cc
-by_pieces p n c w (first ∷ []) e = absurd cc
-by_pieces p n c w (first ∷ next ∷ pieces) e = by_claim p n c w (claim_in first) first next pieces refl e
-
 pub text_back : (p : Program) (n : ℕ) (text : List ℕ) (c : Certificate) → read_of p n text ≡ Ok c → certificate_text p c ≡ text
-text_back p n text c e = by_pieces p n c (read_writable p n text c e) (pieces_of text) e ∙ join_with_byte-slice_split 10 text
+text_back p n text c e =
+    let r = read_as p n text c e in
+    claimed_text p r.claim (n + 1) r.first (r.next ∷ r.others) c (read_writable p n text c e) r.claims r.tells ∙ ap (join_with_byte 10) (sym r.pieces_are) ∙ join_with_byte-slice_split 10 text
 
-pub all_texts : (p : Program) (n : ℕ) (text : List ℕ) (r : Result Certificate CertStop) → Reads (read_of p n text) r → IfOk r (λ c. certificate_text p c ≡ text)
-all_texts p n text (Ok c) h = text_back p n text c h
-all_texts p n text (Err stop) h = tt
+-- ---- the items of a text that is read are those of its certificate
+
+claimed_items : (p : Program) (claim : Claim) (n : ℕ) (pieces : List (List ℕ)) (c : Certificate) → read_on p claim n [] pieces ≡ Ok c → item_of_claim claim ∷ items_on p claim [] pieces ≡ certificate_items c
+claimed_items p claim n pieces c e =
+    let a = accepts p claim n [] pieces c e in
+    let d = tell_all p (blank (length p.columns)) a.later in
+    let is : a.later ≡ items_of c = later_is p claim a.later a.runs a.ends ∙ ap items_of (sym a.told) in
+    let same : claim_of c ≡ claim = ap claim_of a.told ∙ claim_told claim d in
+    ap (λ (l : List Item). item_of_claim claim ∷ l) (a.listed ∙ is) ∙ ap (λ k. item_of_claim k ∷ items_of c) (sym same)
+
+-- the items of a text that is read: its claim, and those that are accepted behind it
+pub read_items : (p : Program) (n : ℕ) (text : List ℕ) (c : Certificate) → (r : IsReadAs p n text c) → text_items p text ≡ item_of_claim r.claim ∷ items_on p r.claim [] (r.next ∷ r.others)
+read_items p n text c r = ap (items_in p) r.pieces_are ∙ ap (λ o. items_claimed p o (r.next ∷ r.others)) r.claims
+
+pub items_back : (p : Program) (n : ℕ) (text : List ℕ) (c : Certificate) → read_of p n text ≡ Ok c → text_items p text ≡ certificate_items c
+items_back p n text c e = let r = read_as p n text c e in read_items p n text c r ∙ claimed_items p r.claim (n + 1) (r.next ∷ r.others) c r.tells

@@ -110,6 +110,10 @@ word_clear : (word : List ℕ) → list_all is_clear word ≡ true → IsClear w
 word_clear word e = record { bytes = e }
 
 pub fields_clear : (p : Program) (s : Place) (item : Item) → IsProgram p → Accepted p s item → AllByRecursion IsClear (fields_of p item)
+fields_clear p s items.Optimal h a = absurd a
+fields_clear p s items.Infeasible h a = absurd a
+fields_clear p s items.Unbounded h a = absurd a
+fields_clear p s items.NotConvex h a = absurd a
 fields_clear p s (items.Value v) h a = (word_clear (codes "VALUE") refl, (text_clear v a.1, tt))
 fields_clear p s (items.Point j v) h a = entry_clear p Columns j v (codes "POINT") h (word_clear (codes "POINT") refl) a.inside a.fits
 fields_clear p s (items.Ray j v) h a = entry_clear p Columns j v (codes "RAY") h (word_clear (codes "RAY") refl) a.inside a.fits

@@ -70,7 +70,7 @@ fits_more p s d items.Farkas a h = nodes_fit d _ h (all_push NodeFits d.nodes (n
 fits_more p s d (items.Cross j) a h = nodes_fit d _ h (all_push NodeFits d.nodes (nodes.Cross j) h.nodes_are tt)
 fits_more p s d (items.W j v) a h = nodes_fit d _ h (all_last NodeFits (with_w j v) (w_fits j v a.fits) d.nodes h.nodes_are)
 fits_more p s d (items.Y i v) a h = nodes_fit d _ h (all_last NodeFits (with_y i v) (y_fits i v a.fits) d.nodes h.nodes_are)
-fits_more p s d items.End a h = h
+fits_more p s d item a h = h
 
 fits_all : (p : Program) (s : Place) (d : Told) (later : List Item) → Runs p s later → HasFitting d → HasFitting (tell_all p d later)
 fits_all p s d [] r h = h

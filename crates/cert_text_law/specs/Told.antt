@@ -59,7 +59,15 @@ with_item columns rows items.Farkas d = record d { nodes = d.nodes ++ Farkas (ze
 with_item columns rows (items.Cross j) d = record d { nodes = d.nodes ++ Cross j ∷ [] }
 with_item columns rows (items.W j v) d = record d { nodes = on_last (with_w j v) d.nodes }
 with_item columns rows (items.Y i v) d = record d { nodes = on_last (with_y i v) d.nodes }
-with_item columns rows items.End d = d
+with_item columns rows item d = d
+
+-- the claim behind one item more
+abbrev pub with_claim : Item → Claim → Claim
+with_claim items.Optimal claim = Optimal
+with_claim items.Infeasible claim = Infeasible
+with_claim items.Unbounded claim = Unbounded
+with_claim items.NotConvex claim = NotConvex
+with_claim item claim = claim
 
 -- what the items tell, the last one first
 abbrev pub told_by : Program → List Item → Told

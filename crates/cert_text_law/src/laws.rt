@@ -9,10 +9,12 @@ ghost use Rattle.cert_grammar.specs.declared.kinds.CertKind.TheVariants as kinds
 ghost use Rattle.cert_text_law.specs.Fronts.{Begins, IsFront, first_lines};
 ghost use Rattle.cert_grammar.specs.Text.{certificate_text};
 ghost use Rattle.cert_text_law.specs.Reading.{read_of};
+ghost use Rattle.cert_text_law.specs.Items.{text_items};
+ghost use Rattle.cert_text_law.specs.CertificateItems.{certificate_items};
 ghost use Rattle.cert_grammar.specs.Writable.{IsWritable, NumbersFit};
 
 /// The text of a certificate is read as that certificate, whatever number its first line has. So it is the text of no other. And a
-/// text that is read as a certificate is the text of that one.
+/// text that is read as a certificate is the text of that one, and its lines are those of the certificate, item by item.
 pub fn texts_are_read_back()
     ensures back { (p : Program) (c : Certificate) (line : ℕ) → IsProgram p → IsWritable p c → NumbersFit c →
         read_of p line (certificate_text p c) ≡ Ok c }
@@ -22,6 +24,8 @@ pub fn texts_are_read_back()
         certificate_text p c ≡ text }
     ensures writable { (p : Program) (line : ℕ) (text : List ℕ) (c : Certificate) → read_of p line text ≡ Ok c →
         IsWritable p c }
+    ensures items { (p : Program) (line : ℕ) (text : List ℕ) (c : Certificate) → read_of p line text ≡ Ok c →
+        text_items p text ≡ certificate_items c }
 {}
 
 /// The line at which a text leaves the grammar is the first that no certificate's text begins with: the lines before it are

@@ -29,7 +29,7 @@ impl Model for TreeBuilder {
     ghost invariant = { λ b. (b.wanted ≡ wanted_after (Some 1) b.nodes.items) × IfSome b.wanted (λ w. w ≤ length b.nodes.items + 1) };
 }
 
-// What is wanted after a node.
+/// What is wanted after a node.
 fn with_node(wanted: Option<usize>, node: &Node) -> Option<usize>
     requires { IfSome wanted (λ w. w < usize.MAX) }
     ensures { result ≡ with_node node.now wanted }

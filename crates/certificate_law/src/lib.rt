@@ -26,6 +26,12 @@ use frac_core::{Frac, Vector};
 use program_law::Squares;
 use std::marker::Model;
 
+/// How many squares a certificate has at most.
+pub const MOST_SQUARES: usize = 128;
+
+/// How many branches a certificate's tree has at most.
+pub const MOST_BRANCHES: usize = 20256;
+
 /// A node of a tree.
 #[derive(Drop)]
 pub enum Node {

@@ -32,7 +32,7 @@ fn push_rows(text: &mut String, alloc: Global, m: &Matrix<Frac>) -> Result<(), F
     Ok(())
 }
 
-// A line with the columns, the inverse, the point and the multipliers.
+/// A line with the columns, the inverse, the point and the multipliers.
 fn push_basis(text: &mut String, alloc: Global, basis: &Basis) -> Result<(), Fail> {
     let columns = basis.columns();
     for k in 0..columns.len() {
@@ -56,7 +56,7 @@ fn push_stop(text: &mut String, alloc: Global, stop: Stop) -> Result<(), Fail> {
     Ok(())
 }
 
-// Puts a column in the first place, and tells the basis. Whether it came in.
+/// Puts a column in the first place, and tells the basis. Whether it came in.
 fn exchanged(
     text: &mut String,
     alloc: Global,
@@ -83,7 +83,7 @@ fn exchanged(
     Ok(done)
 }
 
-// The unit basis, and those with the first and then the second column in the first place, as far as these columns may come there.
+/// The unit basis, and those with the first and then the second column in the first place, as far as these columns may come there.
 fn bases(alloc: Global, m: &Matrix<Frac>, r: &Vector<Frac>) -> Result<String, Fail>
     requires problem { IsProblem (problem m.now r.now) }
     requires few { width (problem m.now r.now) < 2 ^ 32 }
@@ -102,7 +102,7 @@ fn bases(alloc: Global, m: &Matrix<Frac>, r: &Vector<Frac>) -> Result<String, Fa
     Ok(text)
 }
 
-// The same of two equations in two unknowns, with the right sides `x` and `y`.
+/// The same of two equations in two unknowns, with the right sides `x` and `y`.
 fn told(
     alloc: Global,
     first: (Frac, Frac),

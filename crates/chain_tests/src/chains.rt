@@ -26,7 +26,7 @@ fn push_columns(text: &mut String, alloc: Global, columns: &Vector<u32>) -> Resu
     Ok(())
 }
 
-// What is known of two equations with the right sides `x` and `y`, whose entries stand one after another.
+/// What is known of two equations with the right sides `x` and `y`, whose entries stand one after another.
 fn push_known(
     text: &mut String,
     alloc: Global,
@@ -67,7 +67,7 @@ fn push_known(
     }
 }
 
-// Of one unknown.
+/// Of one unknown.
 fn push_column(
     text: &mut String,
     alloc: Global,
@@ -81,7 +81,7 @@ fn push_column(
     push_known(text, alloc, entries, 1, right, bases)
 }
 
-// Of two unknowns, each of which is 1.
+/// Of two unknowns, each of which is 1.
 fn push_unit(text: &mut String, alloc: Global, bases: u64) -> Result<(), Fail> {
     let mut entries = Vec::new(alloc);
     entries.push(Frac::whole(1))?;
@@ -109,7 +109,7 @@ fn knows(rt: HostRuntime) -> Result<(), Fail> {
     Ok(())
 }
 
-// The columns, values and multipliers of a basis.
+/// The columns, values and multipliers of a basis.
 fn push_basis(text: &mut String, alloc: Global, basis: &WholeBasis) -> Result<(), Fail> {
     for k in 0..basis.columns().len() {
         if let Some(value) = basis.value(k) {
@@ -122,7 +122,7 @@ fn push_basis(text: &mut String, alloc: Global, basis: &WholeBasis) -> Result<()
     push_columns(text, alloc, basis.columns())
 }
 
-// What the unit basis of two equations in one unknown comes to when this unknown comes in.
+/// What the unit basis of two equations in one unknown comes to when this unknown comes in.
 fn push_entered(text: &mut String, alloc: Global, basis: &mut WholeBasis) -> Result<(), Fail>
     requires { length basis.old.matrix ≡ 1 }
 {
@@ -134,7 +134,7 @@ fn push_entered(text: &mut String, alloc: Global, basis: &mut WholeBasis) -> Res
     push_basis(text, alloc, basis)
 }
 
-// The same by rows of whole numbers, where they fit, and then what is known within one strict step.
+/// The same by rows of whole numbers, where they fit, and then what is known within one strict step.
 fn push_whole(
     text: &mut String,
     alloc: Global,

@@ -16,7 +16,7 @@ use program_law::Row;
 use program_model::half_form;
 use program_regions::Region;
 
-// The sum, from 0, of each row's multiplier times its side.
+/// The sum, from 0, of each row's multiplier times its side.
 fn rows_added(p: &Program, node: u32, y: &Vector<Frac>) -> Result<Frac, Event>
     requires { length y.now ≡ length p.now.rows }
     ensures { result ≡ with_rows node zero_ℚ y.now (sides p.now) }
@@ -28,7 +28,7 @@ fn rows_added(p: &Program, node: u32, y: &Vector<Frac>) -> Result<Frac, Event>
     Ok(sum)
 }
 
-// A column of A times the rows' multipliers.
+/// A column of A times the rows' multipliers.
 #[tactic(auto, using(crate::proofs::ColumnLemmas::column_step))]
 fn column_dot(p: &Program, j: u32, y: &Vector<Frac>) -> Result<Frac, Event>
     requires rows { length y.now ≡ length p.now.rows }
@@ -42,7 +42,7 @@ fn column_dot(p: &Program, j: u32, y: &Vector<Frac>) -> Result<Frac, Event>
     Ok(total)
 }
 
-// The gradient at a column: that at the leaf's point, or 0 where it has none.
+/// The gradient at a column: that at the leaf's point, or 0 where it has none.
 #[tactic(auto, unfolding(cert_check_law::specs::Leaf::gradient_at))]
 fn gradient(p: &Program, w: Option<&Vector<Frac>>, j: u32) -> Result<Frac, Event>
     requires width { IfSome w (λ w. length w.now ≡ length p.now.columns) }
@@ -56,7 +56,7 @@ fn gradient(p: &Program, w: Option<&Vector<Frac>>, j: u32) -> Result<Frac, Event
     sum(product, p.cost(j))
 }
 
-// The sum with a column's residual times its bound.
+/// The sum with a column's residual times its bound.
 #[tactic(auto, unfolding(cert_check_law::specs::Leaf::with_column))]
 fn column_added(
     p: &Program,
@@ -78,7 +78,7 @@ fn column_added(
     side_added(node, total, residual, bounds)
 }
 
-// The sum with all columns.
+/// The sum with all columns.
 fn columns_added(
     p: &Program,
     node: u32,
@@ -130,7 +130,7 @@ pub fn farkas_tested(p: &Program, node: u32, region: &Region, y: &Vector<Frac>) 
     tested(sum.is_positive(), 9, node)
 }
 
-// Whether a number is at least the value. Where there is no value none is.
+/// Whether a number is at least the value. Where there is no value none is.
 fn reaches(v: &Option<Frac>, low: Frac) -> bool
     ensures { result ≡ reaches v.now low }
 {

@@ -10,14 +10,14 @@ use frac_core::{Frac, Vector};
 use program_data::Program;
 use program_law::Row;
 
-// Whether a change leads out of no side.
+/// Whether a change leads out of no side.
 fn keeps_sides(sides: Row, d: Frac) -> bool
     ensures { result ≡ keeps_sides sides d }
 {
     (sides.low.is_none() || !d.is_negative()) && (sides.high.is_none() || !d.is_positive())
 }
 
-// A row's sum along the ray keeps its sides.
+/// A row's sum along the ray keeps its sides.
 #[tactic(auto, unfolding(cert_check_law::specs::Ray::row_keeps))]
 fn row_keeps(place: u32, sides: Row, row: &[Frac], d: &Vector<Frac>) -> Result<(), Event>
     requires { length row.now ≡ length d.now }
@@ -27,7 +27,7 @@ fn row_keeps(place: u32, sides: Row, row: &[Frac], d: &Vector<Frac>) -> Result<(
     tested(keeps_sides(sides, total), 11, place)
 }
 
-// All rows keep their sides.
+/// All rows keep their sides.
 fn rows_keep(p: &Program, d: &Vector<Frac>) -> Result<(), Event>
     requires { length d.now ≡ length p.now.columns }
     ensures { result ≡ rows_keep 1 (sides p.now) p.now.entries d.now }
@@ -38,7 +38,7 @@ fn rows_keep(p: &Program, d: &Vector<Frac>) -> Result<(), Event>
     Ok(())
 }
 
-// All columns keep their bounds.
+/// All columns keep their bounds.
 fn columns_keep(p: &Program, d: &Vector<Frac>) -> Result<(), Event>
     requires { length d.now ≡ length p.now.columns }
     ensures { result ≡ columns_keep 1 (bounds p.now) d.now }
@@ -49,7 +49,7 @@ fn columns_keep(p: &Program, d: &Vector<Frac>) -> Result<(), Event>
     Ok(())
 }
 
-// A row of the form along the ray is 0.
+/// A row of the form along the ray is 0.
 #[tactic(auto, unfolding(cert_check_law::specs::Ray::row_flat))]
 fn row_flat(place: u32, row: &[Frac], d: &Vector<Frac>) -> Result<(), Event>
     requires { length row.now ≡ length d.now }
@@ -59,7 +59,7 @@ fn row_flat(place: u32, row: &[Frac], d: &Vector<Frac>) -> Result<(), Event>
     tested(total.is_zero(), 13, place)
 }
 
-// All rows of the form along the ray are 0.
+/// All rows of the form along the ray are 0.
 fn rows_flat(p: &Program, d: &Vector<Frac>) -> Result<(), Event>
     requires { length d.now ≡ length p.now.columns }
     ensures { result ≡ rows_flat 1 p.now.pairs d.now }

@@ -1,6 +1,6 @@
 // The test that squares sum to the form.
 
-ghost use Rattle.std.specs.Prelude.{◌≡◌, ◌<◌, ◌-◌, length, slice_index_or, All};
+ghost use Rattle.std.specs.Prelude.{◌≡◌, ◌<◌, ◌-◌, length, All};
 ghost use Rattle.rational.specs.Rational.{zero_ℚ};
 ghost use Rattle.rational.specs.Sums.{entry};
 ghost use Rattle.cert_check_law.specs.Squares.{with_square, squares_from, pair_test, pairs_in_row, pairs_from, squares_test};
@@ -9,17 +9,9 @@ use cert_check_law::Event;
 use check_steps::{entry, product, sum, tested};
 use frac_core::Frac;
 use program_data::Program;
-use program_law::{Square, Squares};
+use program_law::Square;
 
-// The square at a place.
-fn square_of(squares: &Squares, m: usize) -> &Square
-    requires { m < length squares.now }
-    ensures { result.now ≡ slice_index_or squares.now m result.now }
-{
-    squares.get(m)
-}
-
-// The sum with a square's product of two entries. An entry 0 makes no operation.
+/// The sum with a square's product of two entries. An entry 0 makes no operation.
 #[tactic(auto, unfolding(cert_check_law::specs::Squares::with_square))]
 fn product_added(total: Frac, weight: Frac, a: Frac, b: Frac) -> Result<Frac, Event>
     ensures { result ≡ with_square total weight a b }
@@ -32,7 +24,7 @@ fn product_added(total: Frac, weight: Frac, a: Frac, b: Frac) -> Result<Frac, Ev
     sum(total, both)
 }
 
-// The sum with a square's product at two places.
+/// The sum with a square's product at two places.
 fn square_added(total: Frac, square: &Square, j: usize, k: usize) -> Result<Frac, Event>
     requires first { j < length square.now.coef }
     requires second { k < length square.now.coef }
@@ -43,8 +35,8 @@ fn square_added(total: Frac, square: &Square, j: usize, k: usize) -> Result<Frac
     product_added(total, square.weight, first, second)
 }
 
-// What the squares sum to at two places.
-fn squares_added(squares: &Squares, width: usize, j: usize, k: usize) -> Result<Frac, Event>
+/// What the squares sum to at two places.
+fn squares_added(squares: &[Square], width: usize, j: usize, k: usize) -> Result<Frac, Event>
     requires wide { All (λ s. length s.coef ≡ width) squares.now }
     requires first { j < width }
     requires second { k < width }
@@ -52,14 +44,14 @@ fn squares_added(squares: &Squares, width: usize, j: usize, k: usize) -> Result<
 {
     let mut total = Frac::whole(0);
     for m in 0..squares.len() {
-        total = square_added(total, square_of(squares, m), j, k)?;
+        total = square_added(total, &squares[m], j, k)?;
     }
     Ok(total)
 }
 
-// The squares sum to the form's entry at two places.
+/// The squares sum to the form's entry at two places.
 #[tactic(auto, unfolding(cert_check_law::specs::Squares::pair_test))]
-fn pair_tested(p: &Program, squares: &Squares, j: u32, k: u32) -> Result<(), Event>
+fn pair_tested(p: &Program, squares: &[Square], j: u32, k: u32) -> Result<(), Event>
     requires wide { All (λ s. length s.coef ≡ length p.now.columns) squares.now }
     requires first { j < length p.now.columns }
     requires second { k < length p.now.columns }
@@ -70,9 +62,9 @@ fn pair_tested(p: &Program, squares: &Squares, j: u32, k: u32) -> Result<(), Eve
     tested(total == p.pair(j, k), 5, j + 1)
 }
 
-// They do at a column and each from there on.
+/// They do at a column and each from there on.
 #[tactic(auto, using(crate::proofs::Pairs::row_step))]
-fn row_tested(p: &Program, squares: &Squares, j: u32) -> Result<(), Event>
+fn row_tested(p: &Program, squares: &[Square], j: u32) -> Result<(), Event>
     requires wide { All (λ s. length s.coef ≡ length p.now.columns) squares.now }
     requires first { j < length p.now.columns }
     ensures { result ≡ pairs_in_row p.now.pairs squares.now j j (length p.now.columns - j) }
@@ -88,7 +80,7 @@ fn row_tested(p: &Program, squares: &Squares, j: u32) -> Result<(), Event>
 /// # Errors
 /// The first event of the calculation: an operation that is past, or the test that fails, with the place of the column, from 1.
 #[tactic(auto, unfolding(cert_check_law::specs::Squares::squares_test), using(crate::proofs::Pairs::all_step))]
-pub fn squares_tested(p: &Program, squares: &Squares) -> Result<(), Event>
+pub fn squares_tested(p: &Program, squares: &[Square]) -> Result<(), Event>
     requires { All (λ s. length s.coef ≡ length p.now.columns) squares.now }
     ensures { result ≡ squares_test p.now squares.now }
 {

@@ -52,7 +52,7 @@ fn calculated(alloc: Global, p: &Program) -> Result<Curvature, Stop>
 ///
 /// R starts as the form. For each place j in order, with d the entry of R at j and j: where d is above 0, the square of weight d with
 /// the row of j divided by d is taken from R; where the row is 0 there is none; else a vector with a negative form is found, and is
-/// carried back over the places before it.
+/// carried back over the places before it (Lagrange's reduction).
 ///
 /// # Errors
 ///

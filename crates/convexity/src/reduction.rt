@@ -20,7 +20,7 @@ use std::alloc::Global;
 use std::cmp::Ordering;
 use symmetric_half::Half;
 
-// The first place with an entry that is not 0.
+/// The first place with an entry that is not 0.
 fn first_place(row: &[Frac]) -> Option<usize>
     ensures place { result ≡ first_place row.now }
     ensures within { IfSome result (λ k. k < length row.now) }
@@ -33,7 +33,7 @@ fn first_place(row: &[Frac]) -> Option<usize>
     None
 }
 
-// The entry t of a vector with a negative form, where R has b beside the diagonal 0, and c on the diagonal there.
+/// The entry t of a vector with a negative form, where R has b beside the diagonal 0, and c on the diagonal there.
 fn tilt(b: Frac, c: Frac) -> Result<Frac, Refused>
     requires { b.num ≢ pos 0 }
     ensures { result ≡ tilt_in b c }
@@ -46,7 +46,7 @@ fn tilt(b: Frac, c: Frac) -> Result<Frac, Refused>
     Ok(-quotient)
 }
 
-// The place at `j`, where the diagonal is 0. Whether a vector is found.
+/// The place at `j`, where the diagonal is 0. Whether a vector is found.
 fn flat(half: &Half, j: usize, z: &mut Vector<Frac>) -> Result<bool, Refused>
     requires place { j < length half.now }
     requires diagonal { rational_cmp (entry (row_at half.now j) 0) zero_ℚ ≡ Equal }
@@ -67,7 +67,7 @@ fn flat(half: &Half, j: usize, z: &mut Vector<Frac>) -> Result<bool, Refused>
     Ok(true)
 }
 
-// Takes `f` times `v` from the row at `k`.
+/// Takes `f` times `v` from the row at `k`.
 #[tactic(auto, unfolding(crate::specs::ReductionCalculation::less_product))]
 fn free_row(half: &mut Half, k: usize, f: Frac, v: &[Frac]) -> Result<(), Refused>
     requires row { k < length half.old }
@@ -81,7 +81,7 @@ fn free_row(half: &mut Half, k: usize, f: Frac, v: &[Frac]) -> Result<(), Refuse
     half.take_times(k, f, v)
 }
 
-// Takes from each row after the one at `j` its entry in that row times `v`, which has the weight and the entries of a square.
+/// Takes from each row after the one at `j` its entry in that row times `v`, which has the weight and the entries of a square.
 fn free_rows(half: &mut Half, j: usize, v: &[Frac]) -> Result<(), Refused>
     requires place { j < length half.old }
     requires width { j + length v.now ≡ length half.old }
@@ -96,7 +96,7 @@ fn free_rows(half: &mut Half, j: usize, v: &[Frac]) -> Result<(), Refused>
     Ok(())
 }
 
-// The place at `j`, where the diagonal is above 0: takes a square from R, and leaves its weight and entries as the row.
+/// The place at `j`, where the diagonal is above 0: takes a square from R, and leaves its weight and entries as the row.
 fn take_square(half: &mut Half, j: usize, room: &mut [Frac]) -> Result<(), Refused>
     requires place { j < length half.old }
     requires diagonal { rational_cmp (entry (row_at half.old j) 0) zero_ℚ ≡ Greater }
@@ -111,7 +111,7 @@ fn take_square(half: &mut Half, j: usize, room: &mut [Frac]) -> Result<(), Refus
     Ok(())
 }
 
-// The place at `j`. Whether a vector is found, whose entries from `j` on are then in `z`.
+/// The place at `j`. Whether a vector is found, whose entries from `j` on are then in `z`.
 fn step(half: &mut Half, j: usize, z: &mut Vector<Frac>, room: &mut [Frac]) -> Result<bool, Refused>
     requires place { j < length half.old }
     requires zeros { z.old ≡ replicate (length half.old) zero_ℚ }
@@ -134,7 +134,7 @@ fn step(half: &mut Half, j: usize, z: &mut Vector<Frac>, room: &mut [Frac]) -> R
     }
 }
 
-// All places in order. The place at which a vector is found, if one is.
+/// All places in order. The place at which a vector is found, if one is.
 pub fn reduce(
     half: &mut Half,
     z: &mut Vector<Frac>,
@@ -154,7 +154,7 @@ pub fn reduce(
     Ok(None)
 }
 
-// The entry before the one at `next` of a vector that is 0 at the square of the row, given its entries from there on.
+/// The entry before the one at `next` of a vector that is 0 at the square of the row, given its entries from there on.
 fn carried(row: &[Frac], z: &Vector<Frac>, next: usize) -> Result<Frac, Refused>
     requires some { 0 < length row.now }
     requires width { next + length row.now ≡ length z.now + 1 }
@@ -167,7 +167,7 @@ fn carried(row: &[Frac], z: &Vector<Frac>, next: usize) -> Result<Frac, Refused>
     Ok(-product)
 }
 
-// Carries the vector back over the places before `j`.
+/// Carries the vector back over the places before `j`.
 pub fn carry_back(half: &Half, j: usize, z: &mut Vector<Frac>) -> Result<(), Refused>
     requires place { j ≤ length half.now }
     requires length { length z.old ≡ length half.now }
@@ -182,7 +182,7 @@ pub fn carry_back(half: &Half, j: usize, z: &mut Vector<Frac>) -> Result<(), Ref
     Ok(())
 }
 
-// The entries of the square of the row at `j`: zeros before the place, 1 at it, and then those of the row.
+/// The entries of the square of the row at `j`: zeros before the place, 1 at it, and then those of the row.
 fn coefficients(alloc: Global, j: usize, row: &[Frac]) -> Result<Vector<Frac>, Memory>
     requires { 0 < length row.now }
     ensures { IfOk result (λ coef. coef ≡ replicate j zero_ℚ ++ one_ℚ ∷ drop 1 row.now) }
@@ -193,7 +193,7 @@ fn coefficients(alloc: Global, j: usize, row: &[Frac]) -> Result<Vector<Frac>, M
     Vector::of_slice(alloc, &entries)
 }
 
-// The squares of the rows whose first entry, the weight, is not 0.
+/// The squares of the rows whose first entry, the weight, is not 0.
 pub fn squares_of(alloc: Global, half: &Half) -> Result<Squares, Memory>
     ensures { IfOk result (λ squares. squares ≡ squares_of_rows 0 half.now) }
 {

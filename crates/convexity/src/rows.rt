@@ -9,7 +9,7 @@ ghost use Rattle.std.specs.Prelude.{◌≡◌, ◌≢◌, ◌<◌, ◌∷◌, []
 
 use frac_core::{Frac, Refused, is_zero};
 
-// One place: x divided by d.
+/// One place: x divided by d.
 #[tactic(auto, unfolding(elimination_law::specs::Calculation::divide_step))]
 fn quotient(x: Frac, d: Frac) -> Result<Frac, Refused>
     requires { d.num ≢ pos 0 }
@@ -21,7 +21,7 @@ fn quotient(x: Frac, d: Frac) -> Result<Frac, Refused>
     (x / d).or_refusal()
 }
 
-// Writes into `v` the row, with each entry after the first divided by it.
+/// Writes into `v` the row, with each entry after the first divided by it.
 pub fn divide_onto(row: &[Frac], v: &mut [Frac]) -> Result<(), Refused>
     requires some { 0 < length row.now }
     requires room { length v.old ≡ length row.now }

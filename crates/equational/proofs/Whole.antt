@@ -30,8 +30,8 @@ use Rattle.equational_rows.specs.Firsts.{begins_negated, firsts_from}
 use Rattle.equational_rows.specs.declared.equations.First.{First}
 use Rattle.exact_matrix.specs.Stops.{Answers, IsAnswerOf, Stops}
 use Rattle.equational.specs.Formed.{Formed, formed, IsKept}
-use Rattle.equational_rows.specs.Built.{Laid, laid, all_slacks, Built, no_rows, with_equations, appended, quadratic_rows}
-use Rattle.equational.specs.Made.{objective_in, objective_on, IsMade}
+use Rattle.equational_rows.specs.Built.{Laid, laid, all_slacks, Built, no_rows, with_equations, appended}
+use Rattle.equational.specs.Made.{objective_in, objective_on, quadratic_rows, IsMade}
 use Rattle.equational_rows.proofs.Chains.{stops_then, stops_as}
 use Rattle.equational_rows.proofs.Appended.{length-joined, rows_of-joined}
 use Rattle.equational_rows.proofs.Gathered.{equation, first, first_of}

@@ -1,18 +1,24 @@
 -- The parts that a form is made of.
-use Rattle.std.specs.Prelude.{◌≡◌, ℕ, List, length, Result, Ok}
+use Rattle.std.specs.Prelude.{◌≡◌, ℕ, ◌+◌, ◌++◌, List, length, map, replicate, Result, Ok}
 use Rattle.rational.specs.Rational.{ℚ}
+use Rattle.rational.specs.Vectors.{zeros}
 use Rattle.frac_core.specs.declared.fractions.Refused.{Refused}
 use Rattle.frac_core.specs.Parts.{max_part}
 use Rattle.frac_core.specs.Calculated.{◌>>=◌}
 use Rattle.exact_matrix.specs.Systems.{joined}
 use Rattle.program_law.specs.Region.{Region}
 use Rattle.program_law.specs.Program.{Program, IsProgram, sides}
-use Rattle.equational_law.specs.Standing.{spread}
+use Rattle.equational_law.specs.Standing.{parts, spread, spread_rows}
 use Rattle.equational_law.specs.Form.{padded, equations, form_of}
 use Rattle.equational_law.specs.Calculation.{products_in, sums_in, constant_in}
 use Rattle.equational_rows.specs.Firsts.{firsts_from}
 use Rattle.equational_rows.specs.declared.equations.First.{First}
 use Rattle.equational_rows.specs.Built.{Laid, laid, all_slacks, Built}
+
+-- the rows of Q over the form's columns
+abbrev pub quadratic_rows : Laid → List (List ℚ) → List (List ℚ)
+quadratic_rows l pairs =
+    map (padded (all_slacks l)) (spread_rows l.region (map (spread l.region) pairs)) ++ replicate (all_slacks l) (zeros (parts l.region + all_slacks l))
 
 -- the costs of the file's columns and the constant, given the shift
 unfoldable pub objective_in : ℕ → Program → List ℚ → Result (List ℚ × ℚ) Refused

@@ -11,7 +11,7 @@ use crate::objective::Objective;
 use equational_rows::{First, Layout, Rows};
 use exact_matrix::Matrix;
 
-// The form with these columns and equations, and with this objective.
+/// The form with these columns and equations, and with this objective.
 pub(crate) fn assembled(
     layout: Layout,
     rows: Rows,

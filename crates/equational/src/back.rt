@@ -17,14 +17,14 @@ use frac_core::{Frac, Memory, Refused, Vector, added, subtracted};
 use program_law::Row;
 use std::alloc::Global;
 
-// What is carried back to the file's columns.
+/// What is carried back to the file's columns.
 #[derive(Clone, Copy)]
 pub(crate) enum Carried {
     Point,
     Direction,
 }
 
-// `z - z'`, for the two columns of the form from `place` on.
+/// `z - z'`, for the two columns of the form from `place` on.
 fn difference(z: &Vector<Frac>, place: usize) -> Result<Frac, Refused>
     requires { place + 2 ≤ length z.now }
     ensures { result ≡ operated max_part Sub (entry (drop place z.now) 0) (entry (drop place z.now) 1) }
@@ -33,7 +33,7 @@ fn difference(z: &Vector<Frac>, place: usize) -> Result<Frac, Refused>
     subtracted(z.at(place), z.at(place + 1))
 }
 
-// A column of a point, of which the form's columns begin at `place`.
+/// A column of a point, of which the form's columns begin at `place`.
 fn point_column(bounds: &Row, z: &Vector<Frac>, place: usize) -> Result<Frac, Refused>
     requires { place + parts_at (standing bounds.now) ≤ length z.now }
     ensures { result ≡ point_entry_in max_part (standing bounds.now) (drop place z.now) }
@@ -45,7 +45,7 @@ fn point_column(bounds: &Row, z: &Vector<Frac>, place: usize) -> Result<Frac, Re
     }
 }
 
-// A column of a direction, of which the form's columns begin at `place`.
+/// A column of a direction, of which the form's columns begin at `place`.
 fn direction_column(bounds: &Row, d: &Vector<Frac>, place: usize) -> Result<Frac, Refused>
     requires { place + parts_at (standing bounds.now) ≤ length d.now }
     ensures { result ≡ ray_entry_in max_part (standing bounds.now) (drop place d.now) }
@@ -57,7 +57,7 @@ fn direction_column(bounds: &Row, d: &Vector<Frac>, place: usize) -> Result<Frac
     }
 }
 
-// A column of what is carried.
+/// A column of what is carried.
 fn column(carried: Carried, bounds: &Row, z: &Vector<Frac>, place: usize) -> Result<Frac, Refused>
     requires { place + parts_at (standing bounds.now) ≤ length z.now }
     ensures { result ≡ column_in carried (standing bounds.now) (drop place z.now) }
@@ -68,7 +68,7 @@ fn column(carried: Carried, bounds: &Row, z: &Vector<Frac>, place: usize) -> Res
     }
 }
 
-// The file's columns in order, of which each stands on the form's columns after those of the columns before it.
+/// The file's columns in order, of which each stands on the form's columns after those of the columns before it.
 pub(crate) fn columns_back(
     alloc: Global,
     carried: Carried,
@@ -90,7 +90,7 @@ pub(crate) fn columns_back(
     Ok(columns)
 }
 
-// The multiplier of a row, which is that of its first equation, negated where that was.
+/// The multiplier of a row, which is that of its first equation, negated where that was.
 fn multiplier(first: First, y: &Vector<Frac>) -> Frac
     requires { first.equation < length y.now }
     ensures { result ≡ multiplier_at y.now first }
@@ -103,7 +103,7 @@ fn multiplier(first: First, y: &Vector<Frac>) -> Frac
     }
 }
 
-// The multipliers of the rows with these first equations.
+/// The multipliers of the rows with these first equations.
 pub(crate) fn rows_back(
     alloc: Global,
     firsts: &[First],

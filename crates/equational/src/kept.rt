@@ -23,12 +23,19 @@ use std::marker::Model;
 /// columns and equations came from the program and the region.
 #[derive(Drop)]
 pub struct Form {
+    /// M, equations by columns of the form.
     pub(crate) matrix: Matrix<Frac>,
+    /// r, a number for each equation, none below 0.
     pub(crate) right: Vector<Frac>,
+    /// Q, columns by columns of the form.
     pub(crate) quadratic: Matrix<Frac>,
+    /// c, a number for each column of the form.
     pub(crate) cost: Vector<Frac>,
+    /// c0.
     pub(crate) constant: Frac,
+    /// The region's bounds of each column of the file.
     pub(crate) bounds: Vec<Row>,
+    /// For each row of the file its first equation.
     pub(crate) firsts: Vec<First>,
 }
 

@@ -6,6 +6,7 @@ mod back;
 mod calculation;
 mod kept;
 mod objective;
+mod quadratic;
 
 pub use calculation::form;
 pub use kept::Form;

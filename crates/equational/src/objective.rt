@@ -6,17 +6,17 @@ ghost use Rattle.equational_law.specs.Standing.{shift, shift_at, standing};
 ghost use Rattle.equational_law.specs.Calculation.{products_in, sums_in, constant_in};
 ghost use Rattle.exact_matrix.specs.Stops.{Answers};
 ghost use Rattle.exact_matrix.specs.Systems.{joined};
-ghost use Rattle.equational_rows.specs.Built.{quadratic_rows};
-ghost use Rattle.equational.specs.Made.{objective_in, objective_on};
+ghost use Rattle.equational.specs.Made.{objective_in, objective_on, quadratic_rows};
 
-use equational_rows::{Layout, cost, quadratic_rows};
+use crate::quadratic::{cost, quadratic_rows};
+use equational_rows::Layout;
 use exact_matrix::Stop;
 use frac_core::{Frac, Memory, Refused, Vector, added, divided, dot_fractions};
 use program_data::Program;
 use program_law::Row;
 use std::alloc::Global;
 
-// What is added to a column's change.
+/// What is added to a column's change.
 fn shift_of(bounds: Row) -> Frac
     ensures { result ≡ shift_at (standing bounds) }
 {
@@ -29,7 +29,7 @@ fn shift_of(bounds: Row) -> Frac
     }
 }
 
-// The shift of each column.
+/// The shift of each column.
 pub(crate) fn shift(alloc: Global, bounds: &[Row]) -> Result<Vec<Frac>, Memory>
     ensures { IfOk result (λ h. h.items ≡ shift bounds.now) }
 {
@@ -40,7 +40,7 @@ pub(crate) fn shift(alloc: Global, bounds: &[Row]) -> Result<Vec<Frac>, Memory>
     Ok(h)
 }
 
-// The product of each row of Q with the shift.
+/// The product of each row of Q with the shift.
 fn products(alloc: Global, p: &Program, h: &[Frac]) -> Result<Vector<Frac>, Stop>
     requires { length h.now ≡ length p.now.columns }
     ensures products { Answers (λ qs. qs) result (products_in max_part p.now.pairs h.now) }
@@ -53,7 +53,7 @@ fn products(alloc: Global, p: &Program, h: &[Frac]) -> Result<Vector<Frac>, Stop
     Ok(products)
 }
 
-// The sum at each place.
+/// The sum at each place.
 fn sums(alloc: Global, costs: &[Frac], products: &[Frac]) -> Result<Vector<Frac>, Stop>
     requires { length costs.now ≤ length products.now }
     ensures sums { Answers (λ cs. cs) result (sums_in max_part costs.now products.now) }
@@ -66,7 +66,7 @@ fn sums(alloc: Global, costs: &[Frac], products: &[Frac]) -> Result<Vector<Frac>
     Ok(sums)
 }
 
-// The objective's value at the shift.
+/// The objective's value at the shift.
 #[tactic(auto, unfolding(equational_law::specs::Calculation::constant_in))]
 fn constant(p: &Program, h: &[Frac], products: &[Frac]) -> Result<Frac, Refused>
     requires shift { length h.now ≡ length p.now.columns }
@@ -81,7 +81,7 @@ fn constant(p: &Program, h: &[Frac], products: &[Frac]) -> Result<Frac, Refused>
     Ok(value)
 }
 
-// The costs of the file's columns and the constant, in the change from the shift.
+/// The costs of the file's columns and the constant, in the change from the shift.
 #[tactic(auto, unfolding(crate::specs::Made::objective_in), using(equational_rows::proofs::Chains::stops_then))]
 fn changed(alloc: Global, p: &Program, h: &[Frac]) -> Result<(Vector<Frac>, Frac), Stop>
     requires { length h.now ≡ length p.now.columns }
@@ -94,7 +94,7 @@ fn changed(alloc: Global, p: &Program, h: &[Frac]) -> Result<(Vector<Frac>, Frac
     Ok((costs, constant))
 }
 
-// The objective on the form's columns: the rows of Q one after another, the costs, and the constant.
+/// The objective on the form's columns: the rows of Q one after another, the costs, and the constant.
 #[derive(Drop)]
 pub(crate) struct Objective {
     pub(crate) quadratic: Vec<Frac>,
@@ -102,7 +102,7 @@ pub(crate) struct Objective {
     pub(crate) constant: Frac,
 }
 
-// The objective, given the shift.
+/// The objective, given the shift.
 pub(crate) fn objective_of(
     alloc: Global,
     layout: &Layout,

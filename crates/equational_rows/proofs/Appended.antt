@@ -1,6 +1,6 @@
 -- Rows that are appended one after another.
 use Rattle.std.specs.Prelude.{◌≡◌, ℕ, zero, suc, ◌+◌, ◌-◌, ◌*◌, List, [], ◌∷◌, ◌++◌, map, length, replicate, Bool, true, false}
-use Rattle.std.proofs.Common.{refl, sym, ap, ◌∙◌, arith, append_assoc, append-nil}
+use Rattle.std.proofs.Common.{refl, sym, ap, ◌∙◌, arith, add-one, append_assoc, append-nil}
 use Rattle.std.proofs.lemmas.List.{map-append, length-append, length-replicate, take_at, drop_at}
 use Rattle.std.proofs.lemmas.List.Elements.{All-head, All-tail}
 use Rattle.algebra.proofs.Polynomial.{minus, lit, ◌≐◌}
@@ -18,6 +18,22 @@ use Rattle.equational_rows.specs.Built.{Built, signed, signed_by, ended, with_eq
 pub replicate-zeros : (n : ℕ) → replicate n zero_ℚ ≡ zeros n
 replicate-zeros zero = refl
 replicate-zeros (suc n) = ap (λ (l : List ℚ). zero_ℚ ∷ l) (replicate-zeros n)
+
+-- a number appended so many times
+pub repeated_none : (x : ℚ) (was : List ℚ) → was ≡ was ++ replicate 0 x
+repeated_none x was = sym (append-nil was)
+
+one_more : (k : ℕ) (x : ℚ) → replicate k x ++ x ∷ [] ≡ x ∷ replicate k x
+one_more zero x = refl
+one_more (suc k) x = ap (λ (l : List ℚ). x ∷ l) (one_more k x)
+
+pub repeated_more : (x : ℚ) (was now next : List ℚ) (k : ℕ) → now ≡ was ++ replicate k x → next ≡ now ++ x ∷ [] → next ≡ was ++ replicate (k + 1) x
+repeated_more x was now next k e p =
+    p ∙ ap (λ (l : List ℚ). l ++ x ∷ []) e ∙ append_assoc was (replicate k x) (x ∷ [])
+    ∙ ap (λ (l : List ℚ). was ++ l) (one_more k x ∙ ap (λ (n : ℕ). replicate n x) (sym (add-one k)))
+
+pub repeated_all : (x : ℚ) (was now : List ℚ) (k count : ℕ) → k ≡ count → now ≡ was ++ replicate k x → now ≡ was ++ replicate count x
+repeated_all x was now k count h e = e ∙ ap (λ (n : ℕ). was ++ replicate n x) h
 
 pub zeros_pushed : (was now : List ℚ) (x : ℚ) (n : ℕ) → x ≡ zero_ℚ → now ≡ was ++ replicate n x → now ≡ was ++ zeros n
 zeros_pushed was now x n z e = e ∙ ap (λ (x : ℚ). was ++ replicate n x) z ∙ ap (λ (l : List ℚ). was ++ l) (replicate-zeros n)

@@ -3,5 +3,4 @@ pub mod Appended
 pub mod Gathered
 pub mod Places
 pub mod Columns
-pub mod Pairs
 pub mod All

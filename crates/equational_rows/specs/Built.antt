@@ -9,8 +9,6 @@ use Rattle.rational.specs.Vectors.{zeros}
 use Rattle.program_law.specs.Region.{Region}
 use Rattle.rational.specs.Tests.{is_negative}
 use Rattle.program_law.specs.Program.{Program, sides}
-use Rattle.equational_law.specs.Standing.{parts, spread, spread_rows}
-use Rattle.equational_law.specs.Form.{padded}
 use Rattle.equational_law.specs.Equations.{Equation, matrix_row, right_of, row_slacks, bound_slacks}
 use Rattle.equational_rows.specs.declared.rows.Slacks.{Slacks}
 use Rattle.equational_rows.specs.Firsts.{begins_negated}
@@ -73,8 +71,3 @@ abbrev pub two_sides_in : ℚ → ℚ → ℕ → List ℚ → ℚ → Result (L
 two_sides_in l u k row a =
     operated max_part Sub u a >>= λ r. operated max_part Sub u l >>= λ gap. Ok (record { entries = row; before = k; own = one_ℚ ∷ []; right = r }
     ∷ record { entries = zeros (length row); before = k; own = one_ℚ ∷ one_ℚ ∷ []; right = gap } ∷ [])
-
--- the rows of Q over the form's columns
-abbrev pub quadratic_rows : Laid → List (List ℚ) → List (List ℚ)
-quadratic_rows l pairs =
-    map (padded (all_slacks l)) (spread_rows l.region (map (spread l.region) pairs)) ++ replicate (all_slacks l) (zeros (parts l.region + all_slacks l))

@@ -25,11 +25,13 @@ use std::alloc::Global;
 /// The first equation of a row of the file, and whether it was negated.
 #[derive(Clone, Copy)]
 pub struct First {
+    /// The equation, counted from 0.
     pub equation: usize,
+    /// Whether its signs were turned.
     pub negated: bool,
 }
 
-// Appends the equation of a side, given the row's product with the shift. Whether it is negated.
+/// Appends the equation of a side, given the row's product with the shift. Whether it is negated.
 fn push_side(
     rows: &mut Rows,
     layout: &Layout,
@@ -47,7 +49,7 @@ fn push_side(
     Ok(right.is_negative())
 }
 
-// Appends the equations of two different sides, given the row's product with the shift. Whether the first is negated.
+/// Appends the equations of two different sides, given the row's product with the shift. Whether the first is negated.
 fn push_two_sides(
     rows: &mut Rows,
     layout: &Layout,
@@ -77,7 +79,7 @@ fn push_two_sides(
     Ok(negated)
 }
 
-// Appends the equations of a row, given its product with the shift. Whether the first is negated.
+/// Appends the equations of a row, given its product with the shift. Whether the first is negated.
 fn push_row_equations(
     rows: &mut Rows,
     layout: &Layout,
@@ -127,7 +129,7 @@ fn push_row_equations(
     }
 }
 
-// Appends the equations of all rows, and answers the first of each.
+/// Appends the equations of all rows, and answers the first of each.
 fn rows_taken(
     alloc: Global,
     rows: &mut Rows,
@@ -154,7 +156,7 @@ fn rows_taken(
     Ok(firsts)
 }
 
-// Appends the equation of a column with both bounds, whose column of the form is at `at`.
+/// Appends the equation of a column with both bounds, whose column of the form is at `at`.
 fn column_taken(
     rows: &mut Rows,
     layout: &Layout,
@@ -182,7 +184,7 @@ fn column_taken(
     Ok(())
 }
 
-// Appends the equations of all columns.
+/// Appends the equations of all columns.
 fn columns_taken(rows: &mut Rows, layout: &Layout) -> Result<(), Stop>
     ensures { Answers (λ _. rows.new) result (appended (all_slacks layout.now) rows.old (bound_equations_in max_part layout.now.region layout.now.row_slacks 0 layout.now.region)) }
 {

@@ -1,7 +1,7 @@
 // How the file's columns and the slacks stand in the form.
 
 ghost use Rattle.std.specs.Prelude.{◌≡◌, ◌≤◌, ◌+◌, length, IfOk};
-ghost use Rattle.program_law.specs.Program.{sides};
+ghost use Rattle.program_law.specs.Program.{most_columns, sides};
 ghost use Rattle.equational_law.specs.Standing.{standing, parts_at, parts};
 ghost use Rattle.equational_law.specs.Equations.{slacks_at, row_slacks, bound_slacks, bound_slacks_by};
 ghost use Rattle.equational_rows.specs.Built.{all_slacks, laid};
@@ -17,14 +17,19 @@ use std::marker::Model;
 /// and then one for each column with both bounds.
 #[derive(Drop)]
 pub struct Layout {
+    /// The bounds of each column of the file.
     bounds: Vec<Row>,
+    /// How many columns of the form stand for columns of the file: two for one without bounds, else one.
     parts: usize,
+    /// How many slacks the rows have.
     row_slacks: usize,
+    /// How many slacks there are in all.
     slacks: usize,
 }
 
 impl Model for Layout {
     ghost use Rattle.std.specs.Prelude.{◌≡◌, ◌≤◌, ◌+◌, length};
+    ghost use Rattle.program_law.specs.Program.{most_columns};
     ghost use Rattle.equational_law.specs.Standing as standings;
     ghost use Rattle.equational_law.specs.Equations.{bound_slacks};
     ghost use Rattle.equational_rows.specs.Built.{Laid};
@@ -33,7 +38,7 @@ impl Model for Layout {
 
     ghost view = { λ l. record { region = l.bounds.items; row_slacks = l.row_slacks } };
 
-    ghost invariant = { λ l. (length l.bounds.items ≤ 128) × (l.parts ≡ standings.parts l.bounds.items) × (l.parts ≤ 256) × (l.row_slacks ≤ 256) × (l.slacks ≡ l.row_slacks + bound_slacks l.bounds.items) × (l.slacks ≤ 384) };
+    ghost invariant = { λ l. (length l.bounds.items ≤ most_columns) × (l.parts ≡ standings.parts l.bounds.items) × (l.parts ≤ 256) × (l.row_slacks ≤ 256) × (l.slacks ≡ l.row_slacks + bound_slacks l.bounds.items) × (l.slacks ≤ 384) };
 }
 
 /// How many columns of the form stand for a column: two for one without bounds, else one.
@@ -50,7 +55,7 @@ pub fn parts_of(bounds: Row) -> usize
     }
 }
 
-// How many slacks the equations of a row have.
+/// How many slacks the equations of a row have.
 pub(crate) fn slacks_of(sides: Row) -> usize
     ensures slacks { result ≡ slacks_at sides }
     ensures few { result ≤ 2 }
@@ -67,7 +72,7 @@ pub(crate) fn slacks_of(sides: Row) -> usize
     }
 }
 
-// How many slacks the equation of a column has.
+/// How many slacks the equation of a column has.
 pub(crate) fn bound_slacks_of(bounds: Row) -> usize
     ensures slacks { result ≡ bound_slacks_by bounds.low bounds.high }
     ensures few { result ≤ 1 }
@@ -82,7 +87,7 @@ pub(crate) fn bound_slacks_of(bounds: Row) -> usize
 }
 
 fn all_parts(bounds: &[Row]) -> usize
-    requires { length bounds.now ≤ 128 }
+    requires { length bounds.now ≤ most_columns }
     ensures parts { result ≡ parts bounds.now }
     ensures few { result ≤ 256 }
 {
@@ -94,9 +99,9 @@ fn all_parts(bounds: &[Row]) -> usize
 }
 
 fn all_bound_slacks(bounds: &[Row]) -> usize
-    requires { length bounds.now ≤ 128 }
+    requires { length bounds.now ≤ most_columns }
     ensures slacks { result ≡ bound_slacks bounds.now }
-    ensures few { result ≤ 128 }
+    ensures few { result ≤ most_columns }
 {
     let mut count = 0;
     for j in 0..bounds.len() {
@@ -116,7 +121,7 @@ fn all_row_slacks(p: &Program) -> usize
     count
 }
 
-// The same bounds once more.
+/// The same bounds once more.
 fn copied(alloc: Global, bounds: &[Row]) -> Result<Vec<Row>, Memory>
     ensures { IfOk result (λ copy. copy.items ≡ bounds.now) }
 {
@@ -146,7 +151,7 @@ impl Layout {
     /// The bounds of the file's columns.
     pub fn bounds(&self) -> &[Row]
         ensures bounds { result.now ≡ self.now.region }
-        ensures few { length self.now.region ≤ 128 }
+        ensures few { length self.now.region ≤ most_columns }
     {
         &self.bounds
     }
@@ -159,7 +164,7 @@ impl Layout {
         self.parts
     }
 
-    // How many slacks the equations of the file's rows have.
+    /// How many slacks the equations of the file's rows have.
     pub(crate) fn row_slacks(&self) -> usize
         ensures slacks { result ≡ self.now.row_slacks }
         ensures few { result ≤ 256 }

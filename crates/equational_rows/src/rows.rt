@@ -19,7 +19,7 @@ fn signed(negated: bool, x: Frac) -> Frac
     if negated { -x } else { x }
 }
 
-// Appends a number so many times.
+/// Appends a number so many times.
 fn push_repeated(entries: &mut Vec<Frac>, x: Frac, count: usize) -> Result<(), Memory>
     ensures { OnOk result (entries.new.items ≡ entries.old.items ++ replicate count x) }
 {
@@ -40,7 +40,7 @@ pub fn push_zeros(entries: &mut Vec<Frac>, count: usize) -> Result<(), Memory>
     push_repeated(entries, Frac::whole(0), count)
 }
 
-// Appends a column's number on the columns that stand for it.
+/// Appends a column's number on the columns that stand for it.
 fn push_entry(entries: &mut Vec<Frac>, bounds: Row, x: Frac) -> Result<(), Memory>
     ensures { OnOk result (entries.new.items ≡ entries.old.items ++ spread_at (standing bounds) x) }
 {
@@ -55,8 +55,12 @@ fn push_entry(entries: &mut Vec<Frac>, bounds: Row, x: Frac) -> Result<(), Memor
     Ok(())
 }
 
-// Appends the numbers of the file's columns on the columns that stand for them.
-pub(crate) fn push_spread(
+/// Appends the numbers of the file's columns, or these negated, on the columns that stand for them.
+///
+/// # Errors
+///
+/// `Memory`, after which some may have been appended.
+pub fn push_spread(
     entries: &mut Vec<Frac>,
     bounds: &[Row],
     row: &[Frac],
@@ -71,7 +75,7 @@ pub(crate) fn push_spread(
     Ok(())
 }
 
-// The slacks of an equation: how many stand before its own, how many are its own, and the entry on each of these.
+/// The slacks of an equation: how many stand before its own, how many are its own, and the entry on each of these.
 #[derive(Clone, Copy)]
 pub(crate) struct Slacks {
     pub(crate) before: usize,
@@ -82,7 +86,9 @@ pub(crate) struct Slacks {
 /// Equations in order: the rows of M one after another, and r. One with a right side below 0 is negated.
 #[derive(Drop)]
 pub struct Rows {
+    /// The rows of M one after another, each as long as the form has columns.
     entries: Vec<Frac>,
+    /// r, a number for each equation so far.
     right: Vector<Frac>,
 }
 
@@ -111,7 +117,7 @@ impl Rows {
         self.right.len()
     }
 
-    // Ends an equation of which the entries on the columns were appended: its slacks, of so many in all, and its right side.
+    /// Ends an equation of which the entries on the columns were appended: its slacks, of so many in all, and its right side.
     fn end(&mut self, all: usize, slacks: Slacks, right: Frac) -> Result<(), Memory>
         requires few { all ≤ 384 }
         requires within { slacks.before + slacks.own ≤ all }
@@ -125,7 +131,7 @@ impl Rows {
         Ok(())
     }
 
-    // Appends the equation of a row of the file.
+    /// Appends the equation of a row of the file.
     pub(crate) fn push_row(
         &mut self,
         layout: &Layout,
@@ -141,7 +147,7 @@ impl Rows {
         self.end(layout.slacks(), slacks, right)
     }
 
-    // Appends the equation of slacks alone.
+    /// Appends the equation of slacks alone.
     pub(crate) fn push_slacks(
         &mut self,
         layout: &Layout,
@@ -155,7 +161,7 @@ impl Rows {
         self.end(layout.slacks(), slacks, right)
     }
 
-    // Appends the equation of the form's column at `at`.
+    /// Appends the equation of the form's column at `at`.
     pub(crate) fn push_column(
         &mut self,
         layout: &Layout,

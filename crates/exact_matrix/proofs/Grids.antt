@@ -113,19 +113,18 @@ row_put c n xs ys m i e l h k =
     ap (λ rows. record { columns = c; rows = rows }) (rows_of-put c n xs ys i (omega (arith, flat_rows c n xs m e)) (omega arith) k)
     ∙ ap (λ m. with_row m i ys) e
 
-count_is : (rows columns count i : ℕ) (o : Option ℕ) (P : Type 0) → SomeIff o P (rows * columns) → o ≡ Some count → count ≤ i → i ≤ count → i ≡ rows * columns
-count_is rows columns count i None P h e l u = absurd cc
-count_is rows columns count i (Some k) P h e l u = let e2 : k ≡ count = cc in omega (arith, e2, h.1)
+count_is : (rows columns count : ℕ) (o : Option ℕ) (P : Type 0) → SomeIff o P (rows * columns) → o ≡ Some count → count ≡ rows * columns
+count_is rows columns count None P h e = absurd cc
+count_is rows columns count (Some k) P h e = let e2 : k ≡ count = cc in omega (arith, e2, h.1)
 
-pub filled_is : {F : Type 0} (rows columns count i : ℕ) (xs : List F) (v : F) (o : Option ℕ) (P : Type 0) → SomeIff o P (rows * columns) → o ≡ Some count → count ≤ i → i ≤ count → xs ≡ replicate i v →
+pub filled_is : {F : Type 0} (rows columns count : ℕ) (xs : List F) (v : F) (o : Option ℕ) (P : Type 0) → SomeIff o P (rows * columns) → o ≡ Some count → xs ≡ replicate count v →
     ◌≡◌ {A = Grid F} (record { columns = columns; rows = rows_of columns rows xs }) (record { columns = columns; rows = replicate rows (replicate columns v) })
-filled_is rows columns count i xs v o P h e l u is =
+filled_is rows columns count xs v o P h e is =
     ap (λ rows. record { columns = columns; rows = rows })
-    (ap (rows_of columns rows) (is ∙ ap (λ i. replicate i v) (count_is rows columns count i o P h e l u)) ∙ rows_of-replicate columns rows v)
+    (ap (rows_of columns rows) (is ∙ ap (λ n. replicate n v) (count_is rows columns count o P h e)) ∙ rows_of-replicate columns rows v)
 
-pub filled_length : {F : Type 0} (rows columns count i : ℕ) (xs : List F) (v : F) (o : Option ℕ) (P : Type 0) → SomeIff o P (rows * columns) → o ≡ Some count → count ≤ i → i ≤ count → xs ≡ replicate i v →
-    length xs ≡ rows * columns
-filled_length rows columns count i xs v o P h e l u is = ap length is ∙ length-replicate i v ∙ count_is rows columns count i o P h e l u
+pub filled_length : {F : Type 0} (rows columns count : ℕ) (xs : List F) (v : F) (o : Option ℕ) (P : Type 0) → SomeIff o P (rows * columns) → o ≡ Some count → xs ≡ replicate count v → length xs ≡ rows * columns
+filled_length rows columns count xs v o P h e is = ap length is ∙ length-replicate count v ∙ count_is rows columns count o P h e
 
 pub row_read : {F : Type 0} (c n : ℕ) (xs ys : List F) (m : Grid F) (i : ℕ) →
     record { columns = c; rows = rows_of c n xs } ≡ m → i < length m.rows → ys ≡ xs → take ((i * c + c) - i * c) (drop (i * c) ys) ≡ row_at m i

@@ -12,7 +12,7 @@ use crate::systems::Solved;
 use frac_core::{ExactField, Memory, Vector};
 use std::alloc::Global;
 
-// The place of the row that has the pivot of the column at `j`.
+/// The place of the row that has the pivot of the column at `j`.
 fn place_of_pivot(pivots: &Vector<Option<usize>>, j: usize) -> Option<usize>
     ensures { IsPlaceOfPivot j pivots.now result }
 {
@@ -24,8 +24,8 @@ fn place_of_pivot(pivots: &Vector<Option<usize>>, j: usize) -> Option<usize>
     None
 }
 
-// The entry in the column at `at` in the row with the pivot of the column at `j`, and 0 where it
-// has none.
+/// The entry in the column at `at` in the row with the pivot of the column at `j`, and 0 where it
+/// has none.
 fn value_of<F: ExactField>(
     rows: &Matrix<F>,
     pivots: &Vector<Option<usize>>,
@@ -42,7 +42,7 @@ fn value_of<F: ExactField>(
     }
 }
 
-// The values of the first `n` columns, where the column at `n` has the right sides.
+/// The values of the first `n` columns, where the column at `n` has the right sides.
 fn solution<F: ExactField>(
     alloc: Global,
     rows: &Matrix<F>,
@@ -60,7 +60,7 @@ fn solution<F: ExactField>(
     Ok(z)
 }
 
-// What the eliminated rows of [M | r | I] say, where M has `n` columns.
+/// What the eliminated rows of [M | r | I] say, where M has `n` columns.
 pub(crate) fn answer<F: ExactField>(
     alloc: Global,
     rows: &Matrix<F>,
@@ -83,8 +83,8 @@ pub(crate) fn answer<F: ExactField>(
     }
 }
 
-// The parts from column `n` on of the rows with the pivots of the first `n` columns, one after
-// another; `None` where a column has no pivot.
+/// The parts from column `n` on of the rows with the pivots of the first `n` columns, one after
+/// another; `None` where a column has no pivot.
 pub(crate) fn inverse_entries<F: ExactField>(
     alloc: Global,
     rows: &Matrix<F>,

@@ -11,14 +11,14 @@ use crate::matrix::Matrix;
 use frac_core::{ExactField, Memory, Vector};
 use std::alloc::Global;
 
-// The entry at `k` of row `i` of a unit matrix.
+/// The entry at `k` of row `i` of a unit matrix.
 fn unit_entry<F: ExactField>(k: usize, i: usize) -> F
     ensures { F.value result ≡ (if k == i then one_ℚ else zero_ℚ) }
 {
     if k == i { F::one() } else { F::zero() }
 }
 
-// Appends row `i` of the unit matrix of `size` rows.
+/// Appends row `i` of the unit matrix of `size` rows.
 fn push_unit<F: ExactField>(entries: &mut Vec<F>, size: usize, i: usize) -> Result<(), Memory>
     ensures { OnOk result (map F.value entries.new.items ≡ map F.value entries.old.items ++ unit_vector size i) }
 {
@@ -28,7 +28,7 @@ fn push_unit<F: ExactField>(entries: &mut Vec<F>, size: usize, i: usize) -> Resu
     Ok(())
 }
 
-// Appends row `i` of [M | r | I], where `right` is the entry of r.
+/// Appends row `i` of [M | r | I], where `right` is the entry of r.
 fn push_solve_row<F: ExactField>(
     entries: &mut Vec<F>,
     m: &Matrix<F>,
@@ -43,7 +43,7 @@ fn push_solve_row<F: ExactField>(
     push_unit(entries, m.rows(), i)
 }
 
-// Appends row `i` of [M | I].
+/// Appends row `i` of [M | I].
 fn push_invert_row<F: ExactField>(
     entries: &mut Vec<F>,
     m: &Matrix<F>,
@@ -56,7 +56,7 @@ fn push_invert_row<F: ExactField>(
     push_unit(entries, m.rows(), i)
 }
 
-// The rows of [M | r | I].
+/// The rows of [M | r | I].
 pub(crate) fn solve_rows<F: ExactField>(
     alloc: Global,
     m: &Matrix<F>,
@@ -77,7 +77,7 @@ pub(crate) fn solve_rows<F: ExactField>(
     Ok(Matrix::of_rows(entries, rows, width))
 }
 
-// The rows of [M | I].
+/// The rows of [M | I].
 pub(crate) fn invert_rows<F: ExactField>(alloc: Global, m: &Matrix<F>) -> Result<Matrix<F>, Memory>
     requires { IsGrid m.now }
     ensures columns { IfOk result (λ s. s.columns ≡ m.now.columns + length m.now.rows) }

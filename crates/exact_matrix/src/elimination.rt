@@ -10,7 +10,7 @@ ghost use Rattle.std.specs.Prelude.{◌≡◌, ◌<◌, ◌≤◌, length, map, 
 use crate::matrix::Matrix;
 use frac_core::{ExactField, Refused, Vector, is_zero};
 
-// Whether the row at `i`, with the pivot of the column at `pivot`, is not used and not 0 in the column at `j`.
+/// Whether the row at `i`, with the pivot of the column at `pivot`, is not used and not 0 in the column at `j`.
 fn may_pivot<F: ExactField>(rows: &Matrix<F>, i: usize, pivot: Option<usize>, j: usize) -> bool
     requires row { i < length rows.now.rows }
     requires column { j < rows.now.columns }
@@ -19,7 +19,7 @@ fn may_pivot<F: ExactField>(rows: &Matrix<F>, i: usize, pivot: Option<usize>, j:
     pivot.is_none() && !is_zero(rows.at(i, j))
 }
 
-// The first row that is not used and not 0 in the column at `j`.
+/// The first row that is not used and not 0 in the column at `j`.
 pub(crate) fn pivot_place<F: ExactField>(
     rows: &Matrix<F>,
     pivots: &Vector<Option<usize>>,
@@ -37,7 +37,7 @@ pub(crate) fn pivot_place<F: ExactField>(
     None
 }
 
-// Whether the column at `j` is the one with the pivot.
+/// Whether the column at `j` is the one with the pivot.
 pub(crate) fn is_pivot(pivot: Option<usize>, j: usize) -> bool
     ensures { result ≡ is_pivot j pivot }
 {
@@ -47,7 +47,7 @@ pub(crate) fn is_pivot(pivot: Option<usize>, j: usize) -> bool
     }
 }
 
-// Frees the row at `i` of its entry in the column at `j`, by the pivot row `p` of that column.
+/// Frees the row at `i` of its entry in the column at `j`, by the pivot row `p` of that column.
 fn free_row<F: ExactField>(
     rows: &mut Matrix<F>,
     i: usize,
@@ -71,7 +71,7 @@ fn free_row<F: ExactField>(
     rows.take_times(i, factor, p)
 }
 
-// Frees each row but the pivot row `p` of its entry in the column at `j`.
+/// Frees each row but the pivot row `p` of its entry in the column at `j`.
 fn free_rows<F: ExactField>(
     rows: &mut Matrix<F>,
     pivots: &Vector<Option<usize>>,
@@ -90,7 +90,7 @@ fn free_rows<F: ExactField>(
     Ok(())
 }
 
-// Eliminates the column at `j` where the row at `i` is its pivot row. `p` is room for that row.
+/// Eliminates the column at `j` where the row at `i` is its pivot row. `p` is room for that row.
 fn clear_column<F: ExactField>(
     rows: &mut Matrix<F>,
     pivots: &mut Vector<Option<usize>>,
@@ -113,7 +113,7 @@ fn clear_column<F: ExactField>(
     free_rows(rows, pivots, j, p)
 }
 
-// Eliminates the column at `j`, where a row may be its pivot row.
+/// Eliminates the column at `j`, where a row may be its pivot row.
 fn step<F: ExactField>(
     rows: &mut Matrix<F>,
     pivots: &mut Vector<Option<usize>>,
@@ -133,7 +133,7 @@ fn step<F: ExactField>(
     }
 }
 
-// Eliminates the first `n` columns. `p` is room for a row.
+/// Eliminates the first `n` columns. `p` is room for a row.
 pub(crate) fn eliminate<F: ExactField>(
     rows: &mut Matrix<F>,
     pivots: &mut Vector<Option<usize>>,

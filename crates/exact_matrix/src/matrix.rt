@@ -13,6 +13,7 @@ use std::marker::Model;
 /// A matrix, as the list of its rows, which have one length, and the number of its columns.
 #[derive(Drop)]
 pub struct Matrix<F> {
+    /// Row after row, `rows` times `columns` of them.
     entries: Vec<F>,
     rows: usize,
     columns: usize,
@@ -29,6 +30,15 @@ impl<F> Model for Matrix<F> {
     ghost invariant = { λ m. length m.entries.items ≡ m.rows * m.columns };
 }
 
+/// A value so many times.
+fn repeated<F: Copy + Drop>(alloc: Global, count: usize, value: F) -> Result<Vec<F>, Memory>
+    ensures { IfOk result (λ entries. entries.items ≡ replicate count value) }
+{
+    let mut entries = Vec::new(alloc);
+    entries.resize(count, value)?;
+    Ok(entries)
+}
+
 impl<F: Copy + Drop> Matrix<F> {
     /// `rows` rows of `columns` entries, each of them `value`. A matrix of more entries than an index
     /// can count is out of memory.
@@ -36,10 +46,7 @@ impl<F: Copy + Drop> Matrix<F> {
         ensures { IfOk result (λ m. m ≡ record { columns = columns; rows = replicate rows (replicate columns value) }) }
     {
         let count = rows.checked_mul(columns).ok_or(Memory)?;
-        let mut entries = Vec::new(alloc);
-        for _ in 0..count {
-            entries.push(value)?;
-        }
+        let entries = repeated(alloc, count, value)?;
         Ok(Matrix {
             entries,
             rows,
@@ -105,7 +112,7 @@ impl<F: ExactField> Matrix<F> {
         }
     }
 
-    // Divides the row at `i` by `q`, and stops with the first refusal.
+    /// Divides the row at `i` by `q`, and stops with the first refusal.
     pub(crate) fn divide(&mut self, i: usize, q: F) -> Result<(), Refused>
         requires row { i < length self.old.rows }
         requires divisor { (F.value q).num ≢ pos 0 }
@@ -117,7 +124,7 @@ impl<F: ExactField> Matrix<F> {
         divide(&mut self.entries[start..end], q)
     }
 
-    // Takes `f` times `other` from the row at `i`, and stops with the first refusal.
+    /// Takes `f` times `other` from the row at `i`, and stops with the first refusal.
     pub(crate) fn take_times(&mut self, i: usize, f: F, other: &[F]) -> Result<(), Refused>
         requires row { i < length self.old.rows }
         requires other { length other.now ≡ self.old.columns }

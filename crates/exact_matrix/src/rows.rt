@@ -7,7 +7,7 @@ ghost use Rattle.std.specs.Prelude.{◌≢◌, map, pos, unsigned_abs};
 
 use frac_core::{ExactField, Refused, divided, is_zero};
 
-// One place: x divided by q.
+/// One place: x divided by q.
 fn quotient<F: ExactField>(x: F, q: F) -> Result<F, Refused>
     requires { (F.value q).num ≢ pos 0 }
     ensures { IsAnswer F.value result (divide_step (unsigned_abs F.TOP) (F.value q) (F.value x)) }
@@ -18,7 +18,7 @@ fn quotient<F: ExactField>(x: F, q: F) -> Result<F, Refused>
     divided(x, q)
 }
 
-// Divides each entry by `q`, and stops with the first refusal.
+/// Divides each entry by `q`, and stops with the first refusal.
 pub(crate) fn divide<F: ExactField>(row: &mut [F], q: F) -> Result<(), Refused>
     requires { (F.value q).num ≢ pos 0 }
     ensures { IsRow F.value result row.new (divided_in (unsigned_abs F.TOP) (F.value q) (map F.value row.old)) }

@@ -69,7 +69,7 @@ pub enum Solved<F> {
     Refuted(Vector<F>, F),
 }
 
-// Eliminates the first `n` columns, with room for a row of its own.
+/// Eliminates the first `n` columns, with room for a row of its own.
 fn eliminate_in_room<F: ExactField>(
     alloc: Global,
     rows: &mut Matrix<F>,
@@ -88,7 +88,7 @@ fn eliminate_in_room<F: ExactField>(
     Ok(())
 }
 
-// Eliminates the first `n` columns. The answer is the column with its pivot in each row.
+/// Eliminates the first `n` columns. The answer is the column with its pivot in each row.
 fn eliminated<F: ExactField>(
     alloc: Global,
     rows: &mut Matrix<F>,
@@ -105,7 +105,8 @@ fn eliminated<F: ExactField>(
     Ok(pivots)
 }
 
-/// A solution of `m z = r`, or a refutation of it: the answer of the elimination of its columns.
+/// A solution of `m z = r`, or a refutation of it: the answer of the elimination of its columns (Gauss and Jordan's, where the pivot row
+/// of a column is the first unused one with an entry there).
 ///
 /// # Errors
 ///

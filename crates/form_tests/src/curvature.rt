@@ -10,12 +10,12 @@ use std::test::Fail;
 
 const MAX: i128 = i128::MAX;
 
-// Whether it is the fraction of these parts.
+/// Whether it is the fraction of these parts.
 fn is_number(x: Frac, parts: (i128, i128)) -> bool {
     x.num() == parts.0 && x.den() == parts.1
 }
 
-// Whether these are the first numbers of a vector.
+/// Whether these are the first numbers of a vector.
 fn is_vector(v: &Vector<Frac>, numbers: &[(i128, i128)]) -> bool {
     for i in 0..numbers.len() {
         if i >= v.len() || !is_number(v.at(i), numbers[i]) {
@@ -25,7 +25,7 @@ fn is_vector(v: &Vector<Frac>, numbers: &[(i128, i128)]) -> bool {
     true
 }
 
-// Whether the square at a place has this weight and these entries.
+/// Whether the square at a place has this weight and these entries.
 fn is_square(squares: &Squares, k: usize, weight: i128, numbers: &[(i128, i128)]) -> bool {
     if k >= squares.len() {
         return false;
@@ -34,7 +34,7 @@ fn is_square(squares: &Squares, k: usize, weight: i128, numbers: &[(i128, i128)]
     is_number(square.weight, (weight, 1)) && is_vector(&square.coef, numbers)
 }
 
-// The squares of a program's matrix, where it has squares.
+/// The squares of a program's matrix, where it has squares.
 fn squares_of(alloc: Global, text: &str) -> Result<Squares, Fail> {
     let p = program_of(alloc, text)?;
     match squares(alloc, &p) {
@@ -43,7 +43,7 @@ fn squares_of(alloc: Global, text: &str) -> Result<Squares, Fail> {
     }
 }
 
-// The vector of a program's matrix, where it has one.
+/// The vector of a program's matrix, where it has one.
 fn negative_of(alloc: Global, text: &str) -> Result<Vector<Frac>, Fail> {
     let p = program_of(alloc, text)?;
     match squares(alloc, &p) {
@@ -52,7 +52,7 @@ fn negative_of(alloc: Global, text: &str) -> Result<Vector<Frac>, Fail> {
     }
 }
 
-// The operation that is past, where one is.
+/// The operation that is past, where one is.
 fn past_of(alloc: Global, text: &str) -> Result<Refused, Fail> {
     let p = program_of(alloc, text)?;
     match squares(alloc, &p) {

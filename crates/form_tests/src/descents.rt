@@ -16,7 +16,7 @@ fn is_both(a: Frac, b: Frac, x: Frac) -> bool
     a == x && b == x
 }
 
-// Whether it is the form of (x + y - 2)^2, but for its constant.
+/// Whether it is the form of (x + y - 2)^2, but for its constant.
 fn is_valley(f: &Form) -> bool
     ensures { IsTrue result → f.now.form ≡ record valley_form { constant = f.now.form.constant } }
 {
@@ -35,7 +35,7 @@ fn is_valley(f: &Form) -> bool
     is_both(cost.at(0), cost.at(1), Frac::whole(-4))
 }
 
-// Where the form of (x + y - 2)^2 shrinks to from (1, 0).
+/// Where the form of (x + y - 2)^2 shrinks to from (1, 0).
 fn shrunk(alloc: Global, f: &Form) -> Result<Vector<Frac>, Fail> {
     if !is_valley(f) {
         return Err(Fail::new("another form"));

@@ -35,7 +35,7 @@ fn is_row_of(m: &Matrix<Frac>, i: usize, numbers: &[i128]) -> bool {
     true
 }
 
-// Whether a point, a ray and multipliers of threes go back to threes.
+/// Whether a point, a ray and multipliers of threes go back to threes.
 fn go_back(alloc: Global, f: &Form) -> Result<bool, Fail> {
     let z = Vector::filled(alloc, f.cost().len(), Frac::whole(3))?;
     let y = Vector::filled(alloc, f.right().len(), Frac::whole(3))?;
@@ -64,7 +64,7 @@ fn has_costs(f: &Form) -> bool {
         && f.constant().num() == 64
 }
 
-// Whether the form of a program is this one, part by part, and goes back.
+/// Whether the form of a program is this one, part by part, and goes back.
 fn is_formed(alloc: Global, p: &Program) -> Result<bool, Fail> {
     match formed(alloc, p) {
         Ok(f) => Ok(has_equations(&f) && has_costs(&f) && go_back(alloc, &f)?),

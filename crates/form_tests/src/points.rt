@@ -12,7 +12,7 @@ fn is_whole(value: Frac, n: i128) -> bool {
     value.num() == n && value.den() == 1
 }
 
-// Whether a side is a whole number.
+/// Whether a side is a whole number.
 fn is_at(side: Option<Frac>, n: i128) -> bool {
     match side {
         Some(value) => is_whole(value, n),
@@ -26,7 +26,7 @@ fn point(alloc: Global, first: u8, second: u8) -> Result<Vector<Frac>, Memory> {
     Ok(x)
 }
 
-// The place of the row that a point breaks, or 100 more than that of the bound or the mark, counted from 1; 0 for none.
+/// The place of the row that a point breaks, or 100 more than that of the bound or the mark, counted from 1; 0 for none.
 fn broken(p: &Program, region: &Region, x: &Vector<Frac>) -> Option<u32> {
     let columns = p.columns() as usize;
     if region.len() != columns || x.len() != columns {

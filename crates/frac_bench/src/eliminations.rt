@@ -21,7 +21,7 @@ fn put(rows: &mut Matrix<Frac>, i: usize, j: usize, number: Frac) {
     }
 }
 
-// A square matrix, and the right sides.
+/// A square matrix, and the right sides.
 fn some_system(
     alloc: Global,
     numbers: &mut Generator,

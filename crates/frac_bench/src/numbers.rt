@@ -34,7 +34,7 @@ pub fn kind_of(name: &str) -> Option<Kind> {
     }
 }
 
-// 1784742960 is divisible by each number up to 8.
+/// 1784742960 is divisible by each number up to 8.
 const SMALL_BOTTOM: i128 = 1784742960;
 
 const WORD_TOP: i128 = 4611686018427387847;
@@ -67,20 +67,20 @@ impl Generator {
         (self.state >> 33) as u32
     }
 
-    // The next number of 31 bits, with a sign.
+    /// The next number of 31 bits, with a sign.
     fn signed(&mut self) -> i128 {
         let size = i128::from(self.next());
         if self.next() % 2 == 0 { size } else { -size }
     }
 
-    // The next number of 62 bits, with a sign.
+    /// The next number of 62 bits, with a sign.
     fn signed_word(&mut self) -> i128 {
         let low = i128::from(self.next());
         let size = (i128::from(self.next()) << 31) + low;
         if self.next() % 2 == 0 { size } else { -size }
     }
 
-    // The next number of 120 bits, with a sign.
+    /// The next number of 120 bits, with a sign.
     fn signed_wide(&mut self) -> i128 {
         let high = (i128::from(self.next() % (1 << 27)) << 31) + i128::from(self.next());
         let low = i128::from(self.next());

@@ -7,7 +7,7 @@ ghost use Rattle.linear_basis_law.specs.Problem.{width, IsProblem, Problem};
 ghost use Rattle.linear_simplex_law.specs.Chain.{IsEntering};
 ghost use Rattle.exact_matrix.specs.Stops.{IsStopIn};
 ghost use Rattle.linear_basis.specs.Kept.{kept, problem, tableau};
-ghost use Rattle.linear_simplex.specs.Decided.{IsAnswerOf, IsStopOf, IsTrueOf};
+ghost use Rattle.linear_simplex.specs.Decided.{IsAnswerOf, IsLinearStopOf, IsTrueOf};
 ghost use Rattle.linear_simplex.specs.Turns.{Gives, IsKept, IsNext, IsReached, IsRefusal, IsStopAt, IsStopNear, LeadsTo};
 ghost use Rattle.linear_simplex.specs.Whole.{IsLedTo};
 ghost use Rattle.rational.specs.Rational.{ℚ};
@@ -24,7 +24,7 @@ use linear_basis::{Basis, row_products};
 use ratio_test::leaving;
 use std::alloc::Global;
 
-// A refused operation, with the columns of the basis in whose calculation it stands.
+/// A refused operation, with the columns of the basis in whose calculation it stands.
 fn refusal(columns: &Vector<u32>, refused: Refused) -> LinearStop
     ensures { IsRefusal columns.now refused result }
 {
@@ -34,7 +34,7 @@ fn refusal(columns: &Vector<u32>, refused: Refused) -> LinearStop
     }
 }
 
-// The answer of a basis that gives the unit columns no value.
+/// The answer of a basis that gives the unit columns no value.
 fn found(alloc: Global, m: &Matrix<Frac>, basis: &Basis) -> Result<Feasible, Memory>
     requires { (right : List ℚ) × IsKept (problem m.now right) basis.now }
     ensures { (right : List ℚ) → IsKept (problem m.now right) basis.now → IsZeroCost (problem m.now right) (tableau basis.now) → IfOk result (Gives (problem m.now right) (tableau basis.now)) }
@@ -44,7 +44,7 @@ fn found(alloc: Global, m: &Matrix<Frac>, basis: &Basis) -> Result<Feasible, Mem
     Ok(Feasible::Point(x, columns))
 }
 
-// The answer of a final basis.
+/// The answer of a final basis.
 fn refuted(basis: &Basis) -> Result<Feasible, Memory>
     ensures { (p : Problem) → IsKept p basis.now → IsFinal p (tableau basis.now) → IfOk result (Gives p (tableau basis.now)) }
 {
@@ -53,7 +53,7 @@ fn refuted(basis: &Basis) -> Result<Feasible, Memory>
     Ok(Feasible::Farkas(y, columns))
 }
 
-// What a basis says.
+/// What a basis says.
 fn next(alloc: Global, m: &Matrix<Frac>, basis: &Basis) -> Result<Next, LinearStop>
     requires { (right : List ℚ) × IsKept (problem m.now right) basis.now }
     ensures next { (right : List ℚ) → IsKept (problem m.now right) basis.now → IfOk result (IsNext (problem m.now right) (tableau basis.now)) }
@@ -69,7 +69,7 @@ fn next(alloc: Global, m: &Matrix<Frac>, basis: &Basis) -> Result<Next, LinearSt
     }
 }
 
-// The place where a column of M with a price below 0 comes in.
+/// The place where a column of M with a price below 0 comes in.
 fn place(alloc: Global, m: &Matrix<Frac>, basis: &Basis, enter: usize) -> Result<usize, Stop>
     requires { (right : List ℚ) × IsKept (problem m.now right) basis.now × IsEntering (problem m.now right) (tableau basis.now) enter }
     ensures leaving { (right : List ℚ) → IsKept (problem m.now right) basis.now → IsEntering (problem m.now right) (tableau basis.now) enter → IfOk result (IsLeaving (problem m.now right) (tableau basis.now) enter) }
@@ -83,7 +83,7 @@ fn place(alloc: Global, m: &Matrix<Frac>, basis: &Basis, enter: usize) -> Result
     Ok(leave)
 }
 
-// A refused operation of the calculation of the basis with the column `enter` in the place `leave`.
+/// A refused operation of the calculation of the basis with the column `enter` in the place `leave`.
 fn refusal_after(columns: &Vector<u32>, enter: u32, leave: usize, refused: Refused) -> LinearStop
     requires { leave < length columns.now }
     ensures { IsRefusal (slice_set columns.now leave enter) refused result }
@@ -97,7 +97,7 @@ fn refusal_after(columns: &Vector<u32>, enter: u32, leave: usize, refused: Refus
     }
 }
 
-// The strict step of a column of M with a price below 0.
+/// The strict step of a column of M with a price below 0.
 fn exchange(
     alloc: Global,
     m: &Matrix<Frac>,
@@ -125,7 +125,7 @@ fn exchange(
     }
 }
 
-// Goes on from a basis to which a chain of so many strict steps leads.
+/// Goes on from a basis to which a chain of so many strict steps leads.
 fn goes_on(
     alloc: Global,
     m: &Matrix<Frac>,
@@ -140,7 +140,7 @@ fn goes_on(
     requires steps { steps ≤ bases }
     ensures answer { IfOk result (IsAnswerOf (problem m.now r.now) bases) }
     ensures right { IfOk result (IsTrueOf (problem m.now r.now)) }
-    ensures stop { IfErr result (IsStopOf (problem m.now r.now) bases) }
+    ensures stop { IfErr result (IsLinearStopOf (problem m.now r.now) bases) }
 {
     for _ in steps..bases {
         match next(alloc, m, basis)? {
@@ -154,7 +154,7 @@ fn goes_on(
     }
 }
 
-// The basis of these columns, of which it is known that a chain leads to it.
+/// The basis of these columns, of which it is known that a chain leads to it.
 fn basis_of(
     alloc: Global,
     m: &Matrix<Frac>,
@@ -173,7 +173,7 @@ fn basis_of(
     }
 }
 
-// Goes on in fractions from the basis of these columns, to which a chain of so many strict steps leads.
+/// Goes on in fractions from the basis of these columns, to which a chain of so many strict steps leads.
 fn goes_on_from(
     alloc: Global,
     m: &Matrix<Frac>,
@@ -187,13 +187,13 @@ fn goes_on_from(
     requires led { IsLedTo (problem m.now r.now) bases columns.now steps }
     ensures answer { IfOk result (IsAnswerOf (problem m.now r.now) bases) }
     ensures right { IfOk result (IsTrueOf (problem m.now r.now)) }
-    ensures stop { IfErr result (IsStopOf (problem m.now r.now) bases) }
+    ensures stop { IfErr result (IsLinearStopOf (problem m.now r.now) bases) }
 {
     let mut basis = basis_of(alloc, m, r, columns)?;
     goes_on(alloc, m, r, &mut basis, steps, bases)
 }
 
-// Goes along the chain in fractions, from the unit columns on.
+/// Goes along the chain in fractions, from the unit columns on.
 fn goes_from_start(
     alloc: Global,
     m: &Matrix<Frac>,
@@ -204,7 +204,7 @@ fn goes_from_start(
     requires few { width (problem m.now r.now) < 2 ^ 32 }
     ensures answer { IfOk result (IsAnswerOf (problem m.now r.now) bases) }
     ensures right { IfOk result (IsTrueOf (problem m.now r.now)) }
-    ensures stop { IfErr result (IsStopOf (problem m.now r.now) bases) }
+    ensures stop { IfErr result (IsLinearStopOf (problem m.now r.now) bases) }
 {
     let mut basis = Basis::start(alloc, m, r)?;
     goes_on(alloc, m, r, &mut basis, 0, bases)
@@ -229,7 +229,7 @@ pub fn feasible(
     requires few { width (problem m.now r.now) < 2 ^ 32 }
     ensures answer { IfOk result (IsAnswerOf (problem m.now r.now) bases) }
     ensures right { IfOk result (IsTrueOf (problem m.now r.now)) }
-    ensures stop { IfErr result (IsStopOf (problem m.now r.now) bases) }
+    ensures stop { IfErr result (IsLinearStopOf (problem m.now r.now) bases) }
 {
     match whole_chain(alloc, m, r, bases)? {
         Led::Known(answer) => Ok(answer),

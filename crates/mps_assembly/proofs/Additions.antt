@@ -10,21 +10,22 @@ use Rattle.program_law.specs.Program.{Program, row_names, column_names}
 use Rattle.program_law.specs.Changes.{with_row, with_column, with_constant}
 use Rattle.mps_tokens.specs.declared.words.RowKind.{RowKind}
 use Rattle.mps_tokens.specs.Cases.{named}
-use Rattle.mps_grammar.specs.Told.{Told, Telling, names_of, binds, program_rows, objective_in}
+use Rattle.named_things.specs.Named.{names_of}
+use Rattle.mps_grammar.specs.Told.{Told, Telling, binds, program_rows, objective_in}
 use Rattle.mps_grammar.specs.Programs.{value_at, value_told, sides_of, row_of, column_of, bounded, bounds_for, objective_of, makes_past, is_range_past, first_line}
 use Rattle.named_things.specs.Names.{Differ, name_at}
-use Rattle.mps_assembly.specs.Ranged.{is_past, sides_if_held}
-use Rattle.mps_assembly.specs.declared.columns.Bounding.{Bounding}
-use Rattle.mps_assembly.specs.Bounding.{bounding_of, boundings_of}
-use Rattle.mps_assembly.specs.ByRow.{rights_of}
+use Rattle.mps_tables.specs.Ranged.{is_past, sides_if_held}
+use Rattle.mps_tables.specs.declared.columns.Bounding.{Bounding}
+use Rattle.mps_tables.specs.Bounding.{bounding_of, boundings_of}
+use Rattle.mps_tables.specs.ByRow.{rights_of}
 use Rattle.mps_assembly.specs.Assembled.{blank, assembled}
 use Rattle.mps_assembly.specs.Built.{AreSides, rows_built, columns_built}
 use Rattle.named_things.proofs.NameLemmas.{eq_self, eq_from, ne_from, none_some, absent_parts, absent_head}
-use Rattle.mps_assembly.proofs.Tellings.{place-name_at}
+use Rattle.mps_tables.proofs.Tellings.{place-name_at}
 use Rattle.mps_assembly.proofs.Programs.{map-push, blank-row, blank-column, assembled-start}
 use Rattle.mps_assembly.proofs.UsedNames.{absent-bound, used-differ}
-use Rattle.mps_assembly.proofs.ByRows.{length_names}
-use Rattle.mps_assembly.proofs.FirstLines.{read_at, right_at, kind_at}
+use Rattle.mps_tables.proofs.ByRows.{length_names}
+use Rattle.mps_tables.proofs.FirstLines.{read_at, right_at, kind_at}
 use Rattle.mps_assembly.proofs.Pairs.{or_other-none}
 
 -- ---- the objective

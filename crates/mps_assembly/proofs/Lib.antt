@@ -1,11 +1,6 @@
-pub mod Tables
-pub mod Tellings
-pub mod ByRows
-pub mod FirstLines
 pub mod UsedNames
 pub mod Pairs
 pub mod Programs
 pub mod NumberSteps
 pub mod EndFaults
 pub mod Additions
-pub mod GoodSides

@@ -3,15 +3,16 @@ use Rattle.std.proofs.Common.{◌≡◌, ℕ, ◌+◌, ◌<◌, ◌≤◌, List,
 use Rattle.program_law.specs.Places.{place_of}
 use Rattle.program_law.specs.Program.{Program}
 use Rattle.program_law.specs.Changes.{with_pair}
-use Rattle.mps_grammar.specs.Told.{Told, Telling, names_of, program_rows, used_names}
+use Rattle.named_things.specs.Named.{names_of}
+use Rattle.mps_grammar.specs.Told.{Told, Telling, program_rows, used_names}
 use Rattle.mps_notes.specs.declared.numbers.Entry.{Entry}
 use Rattle.named_things.specs.Names.{Differ, name_at}
 use Rattle.mps_notes.specs.Told.{telling_of, tellings_of, IsEntry, AreEntries}
 use Rattle.mps_assembly.specs.Assembled.{assembled, with_placed}
 use Rattle.named_things.proofs.PlaceLemmas.{place_below}
-use Rattle.mps_assembly.proofs.Tellings.{reversed-more, each_at, place-name_at}
+use Rattle.mps_tables.proofs.Tellings.{reversed-more, each_at, place-name_at}
 use Rattle.mps_assembly.proofs.Programs.{assembled-entry, assembled-unused, assembled-pair}
-use Rattle.mps_assembly.proofs.ByRows.{length_names}
+use Rattle.mps_tables.proofs.ByRows.{length_names}
 
 module _ (told : Told) where
   abbrev columns : List (List ℕ)

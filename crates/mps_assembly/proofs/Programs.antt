@@ -10,13 +10,16 @@ use Rattle.program_law.specs.Places.{place_of}
 use Rattle.program_law.specs.Program.{Program}
 use Rattle.program_law.specs.Changes.{zeros, widened, with_place, with_row, with_column, with_pair, with_constant}
 use Rattle.mps_tokens.specs.declared.words.RowKind.{RowKind}
-use Rattle.mps_grammar.specs.Told.{Told, Telling, names_of, program_rows, used_names}
+use Rattle.named_things.specs.Named.{names_of}
+use Rattle.mps_grammar.specs.Told.{Told, Telling, program_rows, used_names}
 use Rattle.mps_grammar.specs.Programs.{value_told, objective_of, row_of, column_of, pair_value, gives_pairs_once, program_of}
 use Rattle.named_things.specs.Names.{Differ}
-use Rattle.mps_assembly.specs.Assembled.{numbers_in, last_value, square_of, assembled, with_number, blank}
+use Rattle.mps_tables.specs.PairTable.{square_of}
+use Rattle.mps_assembly.specs.Assembled.{numbers_in, last_value, assembled, with_number, blank}
 use Rattle.mps_assembly.specs.Sound.{AreToldOnce}
 use Rattle.named_things.proofs.NameLemmas.{eq_self, eq_sym, ne_sym, place_behind, place_first, absent_parts}
-use Rattle.mps_assembly.proofs.Tables.{unchanged, changed_at}
+use Rattle.mps_tables.proofs.Tables.{unchanged, changed_at}
+use Rattle.mps_tables.proofs.FirstLines.{square-place}
 use Rattle.mps_assembly.proofs.Pairs.{IsLevel, last-pair}
 
 -- ---- the numbers of a row
@@ -67,27 +70,6 @@ assembled-unused told es ps t none =
     (numbers_elsewhere (names_of told.columns) es t (objective_of told) (ne_sym t.row (objective_of told) p.0))
 
 -- ---- a pair more
-
-pub square-place : (names : List (List ℕ)) (f g : List ℕ → List ℕ → ℚ) (a b : List ℕ) (v : ℚ) (j k : ℕ) → ((x y : List ℕ) → g x y ≡ if bytes_eq x a && bytes_eq y b then v else f x y) → Differ names
-    → place_of names a ≡ Some j → place_of names b ≡ Some k → square_of names g ≡ with_place (square_of names f) j k v
-square-place names f g a b v j k is differ at_a at_b =
-    let differ_id : Differ (map (λ x. x) names) = rw map-id differ in
-    let at_a_id : place_of (map (λ x. x) names) a ≡ Some j = rw map-id at_a in
-    changed_at (λ x. x) (λ x. map (λ y. f x y) names) (λ x. map (λ y. g x y) names) (λ (row : List ℚ). set row k v) [] a
-    (λ x e. all_same names x (ne_sym a x e)) (λ x e. row_here x (eq_sym a x e)) names j differ_id at_a_id
-  where
-    all_same : (ys : List (List ℕ)) (x : List ℕ) → bytes_eq x a ≡ false → map (λ y. g x y) ys ≡ map (λ y. f x y) ys
-    all_same [] x e = refl
-    all_same (y ∷ ys) x e =
-        let here : g x y ≡ f x y = is x y ∙ rw e refl in
-        rw (here, all_same ys x e) refl
-
-    row_here : (x : List ℕ) → bytes_eq x a ≡ true → map (λ y. g x y) names ≡ set (map (λ y. f x y) names) k v
-    row_here x e =
-        let differ_id : Differ (map (λ x. x) names) = rw map-id differ in
-        let at_b_id : place_of (map (λ x. x) names) b ≡ Some k = rw map-id at_b in
-        changed_at (λ y. y) (λ y. f x y) (λ y. g x y) (λ old. v) zero_ℚ b
-        (λ y h. is x y ∙ rw (e, ne_sym b y h) refl) (λ y h. is x y ∙ rw (e, eq_sym b y h) refl) names k differ_id at_b_id
 
 same_pairs : (p : Program) (one other : List (List ℚ)) → one ≡ other → record p { pairs = one } ≡ record p { pairs = other }
 same_pairs p one other e = rw e refl

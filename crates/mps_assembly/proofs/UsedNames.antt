@@ -4,7 +4,8 @@ use Rattle.std.specs.Prelude.{unwrap_or}
 use Rattle.std.specs.Str.{bytes_eq}
 use Rattle.program_law.specs.Places.{place_of}
 use Rattle.mps_tokens.specs.declared.words.RowKind.{RowKind}
-use Rattle.mps_grammar.specs.Told.{names_of, binds, program_rows, objective_in, used_names}
+use Rattle.named_things.specs.Named.{names_of}
+use Rattle.mps_grammar.specs.Told.{binds, program_rows, objective_in, used_names}
 use Rattle.named_things.specs.Names.{Differ}
 use Rattle.named_things.proofs.NameLemmas.{eq_self, ne_from, absent_parts, absent_head}
 

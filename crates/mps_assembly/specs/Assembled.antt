@@ -6,8 +6,10 @@ use Rattle.program_law.specs.declared.Row.{Row}
 use Rattle.program_law.specs.declared.Column.{Column}
 use Rattle.program_law.specs.Program.{Program}
 use Rattle.program_law.specs.Changes.{zeros, with_entry, with_cost}
-use Rattle.mps_grammar.specs.Told.{Told, Telling, names_of, program_rows}
+use Rattle.named_things.specs.Named.{names_of}
+use Rattle.mps_grammar.specs.Told.{Told, Telling, program_rows}
 use Rattle.mps_grammar.specs.Programs.{value_told, objective_of, program_of}
+use Rattle.mps_tables.specs.PairTable.{square_of}
 
 -- the numbers of a row, column by column
 abbrev pub numbers_in : List (List ℕ) → List Telling → List ℕ → List ℚ
@@ -18,10 +20,6 @@ abbrev pub last_value : List Telling → List ℕ → List ℕ → ℚ
 last_value [] one other = zero_ℚ
 last_value (t ∷ told) one other =
     if bytes_eq one t.row && bytes_eq other t.column then t.value else (if bytes_eq one t.column && bytes_eq other t.row then t.value else last_value told one other)
-
--- a number for each two names
-abbrev pub square_of : List (List ℕ) → (List ℕ → List ℕ → ℚ) → List (List ℚ)
-square_of names f = map (λ one. map (λ other. f one other) names) names
 
 -- the program with these entries and pairs alone
 abbrev pub assembled : Told → List Telling → List Telling → Program

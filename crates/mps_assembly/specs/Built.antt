@@ -2,10 +2,11 @@
 use Rattle.std.specs.Prelude.{◌≡◌, ℕ, List, [], map, take, Option, None}
 use Rattle.rational.specs.Rational.{ℚ}
 use Rattle.program_law.specs.Program.{Program}
-use Rattle.mps_grammar.specs.Told.{Told, names_of, program_rows}
+use Rattle.named_things.specs.Named.{names_of}
+use Rattle.mps_grammar.specs.Told.{Told, program_rows}
 use Rattle.mps_grammar.specs.Programs.{first_line, is_range_past, row_of, column_of, objective_of}
 use Rattle.mps_assembly.specs.Assembled.{blank}
-use Rattle.mps_assembly.specs.ByRow.{rights_of, ranges_of}
+use Rattle.mps_tables.specs.ByRow.{rights_of, ranges_of}
 
 -- with the first rows of a file, so many
 abbrev pub rows_built : Told → ℕ → Program

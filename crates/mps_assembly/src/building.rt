@@ -1,26 +1,24 @@
 // Programs with the rows and the columns of a file, and no numbers yet.
 
 ghost use Rattle.std.specs.Prelude.{◌≡◌, ◌<◌, ◌≤◌, ◌+◌, true, [], None, Some, IsSome, length, slice_get, IfOk, OnOk};
-ghost use Rattle.program_law.specs.Program.{IsRow};
-ghost use Rattle.mps_grammar.specs.Told.{names_of, binds, program_rows, objective_in};
+ghost use Rattle.program_law.specs.Program.{IsRow, most_rows};
+ghost use Rattle.mps_grammar.specs.Told.{binds, program_rows, objective_in};
 ghost use Rattle.mps_grammar.specs.Programs.{first_line, is_range_past, sides_of, value_at, value_told};
-ghost use Rattle.named_things.specs.Named.{things_of};
+ghost use Rattle.named_things.specs.Named.{names_of, things_of};
 ghost use Rattle.named_things.specs.Names.{name_at};
-ghost use Rattle.mps_assembly.specs.Bounding.{boundings_of};
+ghost use Rattle.mps_tables.specs.Bounding.{boundings_of};
 ghost use Rattle.mps_assembly.specs.Built.{AreSides, rows_built, columns_built};
-ghost use Rattle.mps_assembly.specs.ByRow.{rights_of};
+ghost use Rattle.mps_tables.specs.ByRow.{rights_of};
 
-use crate::columns::{Bounding, bounded_columns};
 use crate::naming::{name_of, push_column, push_row};
-use crate::rows::ranges;
-use crate::sides::sides;
 use frac_core::{Frac, Memory, Vector};
-use mps_lines::Draft;
+use mps_notes::Draft;
+use mps_tables::{Bounding, bounded_columns, ranges, sides};
 use mps_tokens::RowKind;
 use program_data::{Program, Row};
 use std::alloc::Global;
 
-// Whether a row of this kind is a row of the program.
+/// Whether a row of this kind is a row of the program.
 fn is_bound(kind: RowKind) -> bool
     ensures { result ≡ binds kind }
 {
@@ -44,7 +42,7 @@ pub(crate) fn objective_row(draft: &Draft) -> usize
     unreachable!()
 }
 
-// The sides of a row of the program.
+/// The sides of a row of the program.
 fn sides_of_row(
     draft: &Draft,
     rights: &Vector<Frac>,
@@ -69,7 +67,7 @@ fn sides_of_row(
     }
 }
 
-// Adds a row of the program.
+/// Adds a row of the program.
 fn add_row(
     alloc: Global,
     draft: &Draft,
@@ -78,7 +76,7 @@ fn add_row(
     kind: RowKind,
     program: &mut Program,
 ) -> Result<(), Memory>
-    requires few { length (program_rows draft.now.rows) ≤ 128 }
+    requires few { length (program_rows draft.now.rows) ≤ most_rows }
     requires objective { IsSome (objective_in draft.now.rows) }
     requires row { row < length draft.now.rows }
     requires kind { slice_get (things_of draft.now.rows) row ≡ Some kind }
@@ -94,7 +92,7 @@ fn add_row(
     push_row(program, name, sides)
 }
 
-// Adds the rows of the program, with these right sides and ranges.
+/// Adds the rows of the program, with these right sides and ranges.
 fn add_each_row(
     alloc: Global,
     draft: &Draft,
@@ -102,7 +100,7 @@ fn add_each_row(
     ranges: &Vector<Option<Frac>>,
     program: &mut Program,
 ) -> Result<(), Memory>
-    requires few { length (program_rows draft.now.rows) ≤ 128 }
+    requires few { length (program_rows draft.now.rows) ≤ most_rows }
     requires objective { IsSome (objective_in draft.now.rows) }
     requires sides { AreSides draft.now rights.now ranges.now }
     requires program { program.old ≡ rows_built draft.now 0 }
@@ -125,7 +123,7 @@ pub(crate) fn add_rows(
     rights: &Vector<Frac>,
     program: &mut Program,
 ) -> Result<(), Memory>
-    requires few { length (program_rows draft.now.rows) ≤ 128 }
+    requires few { length (program_rows draft.now.rows) ≤ most_rows }
     requires objective { IsSome (objective_in draft.now.rows) }
     requires rights { rights.now ≡ rights_of (names_of draft.now.rows) draft.now.sides }
     requires held { first_line (is_range_past draft.now) draft.now.ranges ≡ None }
@@ -136,7 +134,7 @@ pub(crate) fn add_rows(
     add_each_row(alloc, draft, rights, &ranges, program)
 }
 
-// Adds a column.
+/// Adds a column.
 fn add_column(
     alloc: Global,
     draft: &Draft,
@@ -154,7 +152,7 @@ fn add_column(
     push_column(program, name, bounded.column)
 }
 
-// Adds the columns, with these bounds.
+/// Adds the columns, with these bounds.
 fn add_each_column(
     alloc: Global,
     draft: &Draft,

@@ -2,27 +2,29 @@
 
 ghost use Rattle.std.specs.Prelude.{◌≡◌, ◌<◌, ◌≤◌, [], true, None, Some, IsSome, length, IfOk, OnOk};
 ghost use Rattle.std.specs.List.{list_any};
-ghost use Rattle.mps_grammar.specs.Told.{names_of, is_columns, program_rows, objective_in};
+ghost use Rattle.program_law.specs.Program.{most_rows};
+ghost use Rattle.named_things.specs.Named.{names_of};
+ghost use Rattle.mps_grammar.specs.Told.{is_columns, program_rows, objective_in};
 ghost use Rattle.mps_grammar.specs.Programs.{first_line, is_range_past, end_fault, program_of};
 ghost use Rattle.named_things.specs.Names.{name_at};
 ghost use Rattle.mps_assembly.specs.Assembled.{assembled};
 ghost use Rattle.mps_assembly.specs.Built.{rows_built};
-ghost use Rattle.mps_assembly.specs.ByRow.{rights_of};
+ghost use Rattle.mps_tables.specs.ByRow.{rights_of};
 ghost use Rattle.mps_assembly.specs.Finishing.{Finishes};
 ghost use Rattle.mps_assembly.specs.Sound.{IsSound};
 
 use crate::building::{add_columns, add_rows, objective_row};
-use crate::faults::{not_symmetric, range_past};
 use crate::naming::name_of;
 use crate::numbers::{set_entries, set_pairs};
-use crate::rows::right_sides;
 use frac_core::{Frac, Memory, Vector};
 use mps_grammar::FaultKind;
-use mps_lines::{Draft, ReadStop};
+use mps_lines::ReadStop;
+use mps_notes::Draft;
+use mps_tables::{not_symmetric, range_past, right_sides};
 use program_data::Program;
 use std::alloc::Global;
 
-// The fault that all lines make together, and its line.
+/// The fault that all lines make together, and its line.
 fn end_fault(
     alloc: Global,
     draft: &Draft,
@@ -40,7 +42,7 @@ fn end_fault(
     }
 }
 
-// The program with no rows and no columns.
+/// The program with no rows and no columns.
 fn start(alloc: Global, draft: &Draft, objective: usize) -> Result<Program, Memory>
     requires within { objective < length draft.now.rows }
     requires objective { objective_in draft.now.rows ≡ Some (name_at (names_of draft.now.rows) objective) }
@@ -50,7 +52,7 @@ fn start(alloc: Global, draft: &Draft, objective: usize) -> Result<Program, Memo
     Program::start(alloc, name)
 }
 
-// Gives a program with no rows and no columns those of the file, and its constant.
+/// Gives a program with no rows and no columns those of the file, and its constant.
 fn shape(
     alloc: Global,
     draft: &Draft,
@@ -58,7 +60,7 @@ fn shape(
     objective: usize,
     program: &mut Program,
 ) -> Result<(), Memory>
-    requires few { length (program_rows draft.now.rows) ≤ 128 }
+    requires few { length (program_rows draft.now.rows) ≤ most_rows }
     requires within { objective < length draft.now.rows }
     requires objective { objective_in draft.now.rows ≡ Some (name_at (names_of draft.now.rows) objective) }
     requires rights { rights.now ≡ rights_of (names_of draft.now.rows) draft.now.sides }
@@ -72,9 +74,9 @@ fn shape(
     Ok(())
 }
 
-// The program with all rows and columns, and no numbers yet.
+/// The program with all rows and columns, and no numbers yet.
 fn shaped(alloc: Global, draft: &Draft, rights: &Vector<Frac>) -> Result<Program, Memory>
-    requires few { length (program_rows draft.now.rows) ≤ 128 }
+    requires few { length (program_rows draft.now.rows) ≤ most_rows }
     requires objective { IsSome (objective_in draft.now.rows) }
     requires rights { rights.now ≡ rights_of (names_of draft.now.rows) draft.now.sides }
     requires held { first_line (is_range_past draft.now) draft.now.ranges ≡ None }
@@ -86,7 +88,7 @@ fn shaped(alloc: Global, draft: &Draft, rights: &Vector<Frac>) -> Result<Program
     Ok(program)
 }
 
-// The program of what is told.
+/// The program of what is told.
 fn program_of(alloc: Global, draft: &Draft, rights: &Vector<Frac>) -> Result<Program, Memory>
     requires sound { IsSound draft.now }
     requires columns { list_any is_columns draft.now.sections ≡ true }

@@ -2,12 +2,8 @@
 #![tactic(auto)]
 
 mod building;
-mod columns;
-mod faults;
 mod finishing;
 mod naming;
 mod numbers;
-mod rows;
-mod sides;
 
 pub use finishing::finish;

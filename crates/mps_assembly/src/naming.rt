@@ -1,7 +1,7 @@
 // Additions to a program that nothing but memory can stop.
 
 ghost use Rattle.std.specs.Prelude.{◌≡◌, ◌≢◌, ◌<◌, None, length, IfOk, OnOk};
-ghost use Rattle.program_law.specs.Program.{IsName, IsRow, row_names, column_names, marker};
+ghost use Rattle.program_law.specs.Program.{IsName, IsRow, row_names, column_names, marker, most_rows, most_columns};
 ghost use Rattle.program_law.specs.Changes.{with_row, with_column};
 ghost use Rattle.program_law.specs.Places.{place_of};
 
@@ -25,7 +25,7 @@ pub(crate) fn name_of(alloc: Global, bytes: &[u8]) -> Result<Name, Memory>
 pub(crate) fn push_row(program: &mut Program, name: Name, row: Row) -> Result<(), Memory>
     requires row { IsRow row }
     requires marker { name ≢ marker }
-    requires room { length program.old.rows < 128 }
+    requires room { length program.old.rows < most_rows }
     requires absent { place_of (row_names program.old) name ≡ None }
     ensures { OnOk result (program.new ≡ with_row program.old name row) }
 {
@@ -38,7 +38,7 @@ pub(crate) fn push_row(program: &mut Program, name: Name, row: Row) -> Result<()
 
 /// Puts a column last, under a new name.
 pub(crate) fn push_column(program: &mut Program, name: Name, column: Column) -> Result<(), Memory>
-    requires room { length program.old.columns < 128 }
+    requires room { length program.old.columns < most_columns }
     requires absent { place_of (column_names program.old) name ≡ None }
     ensures { OnOk result (program.new ≡ with_column program.old name column) }
 {

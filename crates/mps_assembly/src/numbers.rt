@@ -4,10 +4,10 @@ ghost use Rattle.std.specs.Prelude.{◌≡◌, ◌<◌, ◌≤◌, [], length, I
 ghost use Rattle.mps_grammar.specs.Told.{objective_in};
 ghost use Rattle.mps_assembly.specs.Assembled.{assembled, with_placed};
 
-use mps_lines::{Draft, Entry, Target};
+use mps_notes::{Draft, Entry, Target};
 use program_data::Program;
 
-// A cost or an entry; one of a further N row isn't used.
+/// A cost or an entry; one of a further N row isn't used.
 fn set_entry(program: &mut Program, entry: &Entry)
     requires column { entry.now.column < length program.old.columns }
     requires place { IfSome entry.now.place (λ place. place ≤ length program.old.rows) }

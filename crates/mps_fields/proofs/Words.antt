@@ -5,7 +5,7 @@ use Rattle.std.specs.List.{list_all, list_any, slice_split, onto_first}
 use Rattle.std.proofs.lemmas.Bool.{cases_Bool, or_parts}
 use Rattle.std.proofs.lemmas.Bool.Decides.{nat_tests}
 use Rattle.std.proofs.lemmas.List.Sums.{AllPass-from_list_all}
-use Rattle.program_law.specs.Program.{IsName}
+use Rattle.program_law.specs.Program.{IsName, longest_name}
 use Rattle.mps_tokens.specs.FieldsOf.{is_blank, is_filled, fields_of}
 use Rattle.mps_grammar.specs.Fields.{Pair, Entries, entries_in}
 use Rattle.mps_grammar.specs.Faults.{is_long, has_long, is_plain_byte, is_plain}
@@ -40,7 +40,7 @@ word_name n e long =
     not_zero zero h = absurd cc
     not_zero (suc k) h = omega arith
 
-    at_most : (k : ℕ) → nat_lt 64 k ≡ false → k ≤ 64
+    at_most : (k : ℕ) → nat_lt longest_name k ≡ false → k ≤ longest_name
     at_most k h = grind (arith, nat_tests)
 
 -- ---- the words among the fields

@@ -1,7 +1,7 @@
 // Names and numbers of a line's pairs.
 
 ghost use Rattle.std.specs.Prelude.{◌≡◌, ◌∷◌, []};
-ghost use Rattle.mps_grammar.specs.Told.{names_of};
+ghost use Rattle.named_things.specs.Named.{names_of};
 ghost use Rattle.mps_grammar.specs.Faults.{is_long, has_long};
 ghost use Rattle.mps_fields.specs.Views.{viewed_pair, viewed_pairs, viewed_entries};
 ghost use Rattle.mps_fields.specs.Resolved.{number_in, kind_for, both_of, Resolves};
@@ -11,15 +11,13 @@ use frac_core::{Frac, Tried};
 use mps_grammar::FaultKind;
 use mps_tokens::{NumberFault, number};
 use named_things::Named;
-
-/// The most bytes of a name.
-const LONGEST: usize = 64;
+use program_law::LONGEST_NAME;
 
 /// Whether a name is too long.
 pub fn is_long(name: &[u8]) -> bool
     ensures { result ≡ is_long name.now }
 {
-    name.len() > LONGEST
+    name.len() > LONGEST_NAME
 }
 
 /// Whether a name among a line's column or set and its pairs is too long.

@@ -4,7 +4,7 @@ use Rattle.std.specs.List.{list_all, list_any}
 use Rattle.std.specs.Str.{bytes_eq}
 use Rattle.rational.specs.Rational.{ℚ}
 use Rattle.program_law.specs.Places.{place_of}
-use Rattle.program_law.specs.Program.{marker}
+use Rattle.program_law.specs.Program.{marker, most_rows, most_columns, longest_name}
 use Rattle.mps_tokens.specs.Lines.{without_return}
 use Rattle.mps_tokens.specs.FieldsOf.{fields_of}
 use Rattle.mps_tokens.specs.Cases.{named}
@@ -20,7 +20,8 @@ use Rattle.mps_grammar.specs.declared.kinds.FaultKind.{FaultKind}
 use Rattle.mps_grammar.specs.declared.kinds.FaultKind.TheVariants as kinds
 use Rattle.mps_grammar.specs.Lines.{field, is_comment, is_passed, is_indented}
 use Rattle.mps_grammar.specs.Fields.{Pair, Entries, Bounded, row_kind_in, row_name_in, is_marker, begins_stretch, ends_stretch, entries_in, sides_in, bound_kind_in, has_number, bounded_in}
-use Rattle.mps_grammar.specs.Told.{Told, Telling, is_rows, is_columns, is_rhs, is_ranges, is_bounds, is_quadratic, names_of, binds, program_rows, objective_in, used_names, is_told, is_used, quadratic_number}
+use Rattle.named_things.specs.Named.{names_of}
+use Rattle.mps_grammar.specs.Told.{Told, Telling, is_rows, is_columns, is_rhs, is_ranges, is_bounds, is_quadratic, binds, program_rows, objective_in, used_names, is_told, is_used, quadratic_number}
 
 -- tests in their order, with the fault that each finds
 abbrev pub Tests : Type 0
@@ -34,7 +35,7 @@ first_of (t ∷ ts) = if t.0 then Some t.1 else first_of ts
 -- ---- names and numbers
 
 abbrev pub is_long : List ℕ → Bool
-is_long name = nat_lt 64 (length name)
+is_long name = nat_lt longest_name (length name)
 
 -- a name that is too long among a line's column or set and its pairs
 abbrev pub has_long : Entries → Bool
@@ -77,7 +78,7 @@ named_row_tests told kind (Some name) =
     (bytes_eq name marker, kinds.Marker)
     ∷ (is_long name, kinds.NameLong)
     ∷ (is_some (place_of (names_of told.rows) name), kinds.NameTwice)
-    ∷ (binds kind && nat_le 128 (length (program_rows told.rows)), kinds.TooMany)
+    ∷ (binds kind && nat_le most_rows (length (program_rows told.rows)), kinds.TooMany)
     ∷ []
 
 abbrev pub row_tests : Told → Option RowKind → List (List ℕ) → Tests
@@ -101,7 +102,7 @@ entry_tests told (Some e) =
     ∷ (has_no_number number_of e.1, kinds.NumberText)
     ∷ (has_past number_of e.1, kinds.NumberPast)
     ∷ (gives_twice (counts_row told) (is_told told.entries e.0) e.1, kinds.EntryTwice)
-    ∷ (is_none (place_of (names_of told.columns) e.0) && nat_le 128 (length told.columns), kinds.TooMany)
+    ∷ (is_none (place_of (names_of told.columns) e.0) && nat_le most_columns (length told.columns), kinds.TooMany)
     ∷ []
 
 abbrev pub column_tests : Told → List (List ℕ) → Tests

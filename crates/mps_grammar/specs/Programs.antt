@@ -18,7 +18,8 @@ use Rattle.mps_tokens.specs.declared.words.BoundKind.{BoundKind}
 use Rattle.mps_tokens.specs.declared.words.BoundKind.TheVariants as bound_kinds
 use Rattle.mps_grammar.specs.declared.kinds.FaultKind.{FaultKind}
 use Rattle.mps_grammar.specs.declared.kinds.FaultKind.TheVariants as kinds
-use Rattle.mps_grammar.specs.Told.{Told, Telling, BoundTelling, is_at, names_of, program_rows, objective_in}
+use Rattle.named_things.specs.Named.{names_of}
+use Rattle.mps_grammar.specs.Told.{Told, Telling, BoundTelling, is_at, program_rows, objective_in}
 use Rattle.mps_grammar.specs.Verdict.{Fault}
 
 -- the first of two, or else the other

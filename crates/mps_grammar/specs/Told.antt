@@ -1,10 +1,11 @@
 -- What the lines of a program file tell, by names. Each list is told by the lines of one section, and by no state.
-use Rattle.std.specs.Prelude.{ℕ, ◌&&◌, Bool, true, false, List, [], ◌∷◌, ◌++◌, length, map, filter, Option, Some, None, Result, Ok, Err, is_some, unwrap_or, option_to_list, if◌then◌else◌}
+use Rattle.std.specs.Prelude.{ℕ, ◌&&◌, Bool, true, false, List, [], ◌∷◌, ◌++◌, length, filter, Option, Some, None, Result, Ok, Err, is_some, unwrap_or, option_to_list, if◌then◌else◌}
 use Rattle.std.specs.List.{list_any}
 use Rattle.std.specs.Option.{option_map}
 use Rattle.std.specs.Str.{bytes_eq}
 use Rattle.rational.specs.Rational.{ℚ, zero_ℚ, ◌+ℚ◌}
 use Rattle.program_law.specs.Places.{place_of}
+use Rattle.named_things.specs.Named.{names_of}
 use Rattle.mps_tokens.specs.declared.fault.NumberFault.{NumberFault}
 use Rattle.mps_tokens.specs.Numbers.{number_of, fitted}
 use Rattle.mps_tokens.specs.declared.words.Section.{Section}
@@ -48,10 +49,6 @@ abbrev pub lines_in : (Section → Bool) → List Data → List Data
 lines_in test ds = filter (λ d. test d.section) ds
 
 -- ---- rows
-
--- the names of named things
-abbrev pub names_of : {A : Type 0} → List (List ℕ × A) → List (List ℕ)
-names_of things = map (λ thing. thing.0) things
 
 -- a row, where the line is one
 abbrev pub row_told : Option (List ℕ) → Option RowKind → Option (List ℕ × RowKind)

@@ -135,9 +135,9 @@ module _ (text : List ℕ) (at : ℕ) (n : Notes) (read : IsRead text at n) wher
 
 -- ---- the answer
 
-pub fails : (text : List ℕ) (number : ℕ) (stop : LineStop) → ((kind : FaultKind) → stop ≡ line_stops.Fault kind → told_of text ≡ Err (number, kind)) → TellsNotes (told_of text) (Err (read_stop number stop))
-fails text number line_stops.Memory h = tt
-fails text number (line_stops.Fault kind) h = h kind refl
+pub fails : (text : List ℕ) (new : Notes) (number : ℕ) (stop : LineStop) → ((kind : FaultKind) → stop ≡ line_stops.Fault kind → told_of text ≡ Err (number, kind)) → TellsNotes (told_of text) new (Err (read_stop number stop))
+fails text new number line_stops.Memory h = tt
+fails text new number (line_stops.Fault kind) h = h kind refl
 
 -- ---- the first line that is neither blank nor a comment
 

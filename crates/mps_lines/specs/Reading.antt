@@ -23,10 +23,11 @@ abbrev pub read_stop : ℕ → LineStop → ReadStop
 read_stop line line_stops.Memory = stops.Memory
 read_stop line (line_stops.Fault kind) = stops.Fault line kind
 
-abbrev pub TellsNotes : Result (Told × Spot) Fault → Result (Notes × Place) ReadStop → Type 0
-TellsNotes told (Ok n) = (all : Told) × (told ≡ Ok (all, spot_of n.1)) × Holds all n.0
-TellsNotes told (Err stops.Memory) = ⊤
-TellsNotes told (Err (stops.Fault line kind)) = told ≡ Err (line, kind)
+-- what is kept of the lines up to ENDATA and the place behind them, or the fault, or memory ran out
+abbrev pub TellsNotes : Result (Told × Spot) Fault → Notes → Result Place ReadStop → Type 0
+TellsNotes told notes (Ok place) = (all : Told) × (told ≡ Ok (all, spot_of place)) × Holds all notes
+TellsNotes told notes (Err stops.Memory) = ⊤
+TellsNotes told notes (Err (stops.Fault line kind)) = told ≡ Err (line, kind)
 
 -- what the lines up to ENDATA tell and the place behind them, or the fault, or memory ran out
 abbrev pub Tells : Result (Told × Spot) Fault → Result (Draft × Place) ReadStop → Type 0

@@ -1,11 +1,13 @@
 -- What a line does to what is kept.
-use Rattle.std.specs.Prelude.{◌≡◌, ℕ, ◌&&◌, not, Bool, List, ◌∷◌, Some, Result}
+use Rattle.std.specs.Prelude.{◌≡◌, ℕ, ◌&&◌, not, Bool, false, List, ◌∷◌, Some, Result}
 use Rattle.mps_tokens.specs.Lines.{without_return}
 use Rattle.mps_tokens.specs.Cases.{named}
 use Rattle.mps_tokens.specs.Words.{section_names}
 use Rattle.mps_tokens.specs.declared.words.Section.{Section}
+use Rattle.mps_tokens.specs.declared.words.Section.TheVariants as sections
 use Rattle.mps_grammar.specs.declared.kinds.FaultKind.TheVariants as kinds
 use Rattle.mps_grammar.specs.Lines.{is_comment}
+use Rattle.mps_grammar.specs.Told.{is_rows, is_columns, is_rhs, is_ranges, is_bounds, is_quadratic}
 use Rattle.mps_grammar.specs.After.{told_within, told_header, told_content, told_shown, told_after}
 use Rattle.mps_grammar.specs.Faults.{section_tests, header_tests, is_plain, content_tests, shown_tests, line_tests}
 use Rattle.mps_grammar.specs.Verdict.{is_end, ends}
@@ -22,6 +24,20 @@ TakesIndented old fields new result =
 
 abbrev pub is_end_section : Section → Bool
 is_end_section section = is_end (Some section)
+
+-- whether the other is this section, or both are quadratic ones; of NAME, ENDATA and OBJSENSE nothing asks
+abbrev pub is_like : Section → Section → Bool
+is_like sections.Name = λ other. false
+is_like sections.Rows = is_rows
+is_like sections.Columns = is_columns
+is_like sections.Rhs = is_rhs
+is_like sections.Ranges = is_ranges
+is_like sections.Bounds = is_bounds
+is_like sections.QuadObj = is_quadratic
+is_like sections.QMatrix = is_quadratic
+is_like sections.DMatrix = is_quadratic
+is_like sections.EndData = λ other. false
+is_like sections.ObjSense = λ other. false
 
 abbrev pub TakesHeader : Notes → List ℕ → Notes → Result Bool LineStop → Type 0
 TakesHeader old word new result =

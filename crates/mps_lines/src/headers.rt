@@ -2,44 +2,20 @@
 
 ghost use Rattle.std.specs.Prelude.{◌≡◌};
 ghost use Rattle.std.specs.List.{list_any};
-ghost use Rattle.mps_grammar.specs.Told.{is_rows, is_columns, is_rhs, is_ranges, is_bounds, is_quadratic};
+ghost use Rattle.mps_grammar.specs.Told.{is_columns, is_quadratic};
 ghost use Rattle.mps_grammar.specs.Faults.{may_begin, is_sense};
 ghost use Rattle.mps_notes.specs.Notes.{IsSound};
-ghost use Rattle.mps_lines.specs.Steps.{TakesHeader, is_end_section};
+ghost use Rattle.mps_lines.specs.Steps.{TakesHeader, is_end_section, is_like};
 
 use mps_grammar::FaultKind;
 use mps_notes::Notes;
 use mps_sections::LineStop;
 use mps_tokens::{Section, section_of};
 
-fn is_rows(section: Section) -> bool
-    ensures { result ≡ is_rows section }
-{
-    matches!(section, Section::Rows)
-}
-
 fn is_columns(section: Section) -> bool
     ensures { result ≡ is_columns section }
 {
     matches!(section, Section::Columns)
-}
-
-fn is_rhs(section: Section) -> bool
-    ensures { result ≡ is_rhs section }
-{
-    matches!(section, Section::Rhs)
-}
-
-fn is_ranges(section: Section) -> bool
-    ensures { result ≡ is_ranges section }
-{
-    matches!(section, Section::Ranges)
-}
-
-fn is_bounds(section: Section) -> bool
-    ensures { result ≡ is_bounds section }
-{
-    matches!(section, Section::Bounds)
 }
 
 fn is_quadratic(section: Section) -> bool
@@ -63,40 +39,26 @@ fn is_end(section: Section) -> bool
     matches!(section, Section::EndData)
 }
 
-fn has_rows(begun: &[Section]) -> bool
-    ensures { result ≡ list_any is_rows begun.now }
+/// Whether the other is this section, or both are quadratic ones.
+fn is_like(section: Section, other: Section) -> bool
+    ensures { result ≡ is_like section other }
 {
-    begun.iter().any(|section| is_rows(*section))
+    match section {
+        Section::Rows => matches!(other, Section::Rows),
+        Section::Columns => is_columns(other),
+        Section::Rhs => matches!(other, Section::Rhs),
+        Section::Ranges => matches!(other, Section::Ranges),
+        Section::Bounds => matches!(other, Section::Bounds),
+        Section::QuadObj | Section::QMatrix | Section::DMatrix => is_quadratic(other),
+        Section::Name | Section::EndData | Section::ObjSense => false,
+    }
 }
 
-fn has_columns(begun: &[Section]) -> bool
-    ensures { result ≡ list_any is_columns begun.now }
+/// Whether a section like this one was begun.
+fn has(begun: &[Section], section: Section) -> bool
+    ensures { result ≡ list_any (is_like section) begun.now }
 {
-    begun.iter().any(|section| is_columns(*section))
-}
-
-fn has_rhs(begun: &[Section]) -> bool
-    ensures { result ≡ list_any is_rhs begun.now }
-{
-    begun.iter().any(|section| is_rhs(*section))
-}
-
-fn has_ranges(begun: &[Section]) -> bool
-    ensures { result ≡ list_any is_ranges begun.now }
-{
-    begun.iter().any(|section| is_ranges(*section))
-}
-
-fn has_bounds(begun: &[Section]) -> bool
-    ensures { result ≡ list_any is_bounds begun.now }
-{
-    begun.iter().any(|section| is_bounds(*section))
-}
-
-fn has_quadratic(begun: &[Section]) -> bool
-    ensures { result ≡ list_any is_quadratic begun.now }
-{
-    begun.iter().any(|section| is_quadratic(*section))
+    begun.iter().any(|other| is_like(section, *other))
 }
 
 /// Whether a section may begin after these.
@@ -105,15 +67,15 @@ fn may_begin(begun: &[Section], section: Section) -> bool
 {
     match section {
         Section::Name => begun.is_empty(),
-        Section::Rows => !has_rows(begun),
-        Section::Columns => has_rows(begun) && !has_columns(begun),
-        Section::Rhs => has_columns(begun) && !has_rhs(begun),
-        Section::Ranges => has_columns(begun) && !has_ranges(begun),
-        Section::Bounds => has_columns(begun) && !has_bounds(begun),
-        Section::QuadObj | Section::QMatrix | Section::DMatrix => {
-            has_columns(begun) && !has_quadratic(begun)
-        }
-        Section::EndData => has_columns(begun),
+        Section::Rows => !has(begun, Section::Rows),
+        Section::Columns => has(begun, Section::Rows) && !has(begun, Section::Columns),
+        Section::Rhs
+        | Section::Ranges
+        | Section::Bounds
+        | Section::QuadObj
+        | Section::QMatrix
+        | Section::DMatrix => has(begun, Section::Columns) && !has(begun, section),
+        Section::EndData => has(begun, Section::Columns),
         Section::ObjSense => false,
     }
 }

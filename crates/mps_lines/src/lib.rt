@@ -7,6 +7,5 @@ mod reading;
 mod stop;
 mod taking;
 
-pub use mps_notes::{Bound, Draft, Entry, Target};
 pub use reading::{rest, told};
 pub use stop::{Place, ReadStop};

@@ -14,7 +14,7 @@ use mps_sections::LineStop;
 use std::alloc::Global;
 use std::marker::Model;
 
-/// The lines that were read so far, as what is kept of them. A loop owns it as one value, and not as its many lists.
+/// The lines that were read so far, as what is kept of them: one value to own, and not many lists.
 #[derive(Drop)]
 pub(crate) struct Lines {
     notes: Notes,

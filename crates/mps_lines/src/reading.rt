@@ -1,9 +1,11 @@
 // Reading a text up to ENDATA.
 
-ghost use Rattle.std.specs.Prelude.{◌≡◌, ◌+◌, ◌≤◌, ◌<◌, ◌^◌, length, IfOk, IfSome};
+ghost use Rattle.std.specs.Prelude.{◌≡◌, ◌+◌, ◌≤◌, ◌<◌, ◌^◌, [], length, IfOk, IfSome};
 ghost use Rattle.mps_lines.specs.Reading.{read_stop, TellsNotes, Tells, IsPlaceIn, spot_of, spot_in};
 ghost use Rattle.mps_grammar.specs.Lines.{is_passed};
 ghost use Rattle.mps_grammar.specs.Reading.{told_of, rest_of};
+ghost use Rattle.mps_grammar.specs.Told.{told_by};
+ghost use Rattle.mps_notes.specs.Notes.{told_in, IsSound};
 
 use crate::lines::Lines;
 use crate::stop::{Place, ReadStop};
@@ -24,15 +26,14 @@ fn stop_at(line: u32, stop: LineStop) -> ReadStop
     }
 }
 
-/// The lines up to ENDATA, and the place behind them.
-fn lines_of(alloc: Global, text: &[u8]) -> Result<(Lines, Place), ReadStop>
-    requires { length text.now ≤ 2 ^ 30 }
-    ensures tells { TellsNotes (told_of text.now) result }
-    ensures place { IfOk result (λ n. IsPlaceIn text.now n.1) }
+/// Takes the lines of a text up to ENDATA, and answers the place behind them.
+fn take_lines(alloc: Global, text: &[u8], lines: &mut Lines) -> Result<Place, ReadStop>
+    requires short { length text.now ≤ 2 ^ 30 }
+    requires told { told_in lines.old ≡ told_by [] }
+    requires sound { IsSound lines.old }
+    ensures tells { TellsNotes (told_of text.now) lines.new result }
+    ensures place { IfOk result (λ place. IsPlaceIn text.now place) }
 {
-    let Ok(mut lines) = Lines::start(alloc) else {
-        return Err(ReadStop::Memory);
-    };
     let mut at = 0;
     while at < text.len() {
         let whole = whole_line(text, at);
@@ -44,11 +45,10 @@ fn lines_of(alloc: Global, text: &[u8]) -> Result<(Lines, Place), ReadStop>
         };
         at = whole.line.next;
         if ended {
-            let place = Place {
+            return Ok(Place {
                 byte: at,
                 line: lines.count() + 1,
-            };
-            return Ok((lines, place));
+            });
         }
     }
     Err(ReadStop::Fault {
@@ -66,7 +66,10 @@ pub fn told(alloc: Global, text: &[u8]) -> Result<(Draft, Place), ReadStop>
     ensures tells { Tells (told_of text.now) result }
     ensures place { IfOk result (λ t. IsPlaceIn text.now t.1) }
 {
-    let (lines, place) = lines_of(alloc, text)?;
+    let Ok(mut lines) = Lines::start(alloc) else {
+        return Err(ReadStop::Memory);
+    };
+    let place = take_lines(alloc, text, &mut lines)?;
     Ok((lines.draft(), place))
 }
 

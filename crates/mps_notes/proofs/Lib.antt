@@ -4,3 +4,5 @@ pub mod RowsFound
 pub mod Marks
 pub mod Tellings
 pub mod Sound
+pub mod Puts
+pub mod Twice

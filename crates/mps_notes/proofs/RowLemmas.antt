@@ -8,7 +8,8 @@ use Rattle.std.proofs.lemmas.List.Elements.{filter-append}
 use Rattle.mps_tokens.specs.declared.words.RowKind.{RowKind}
 use Rattle.program_law.specs.Places.{place_of}
 use Rattle.program_law.specs.Program.{IsName}
-use Rattle.mps_grammar.specs.Told.{names_of, binds, program_rows, objective_in, used_names}
+use Rattle.named_things.specs.Named.{names_of}
+use Rattle.mps_grammar.specs.Told.{binds, program_rows, objective_in, used_names}
 use Rattle.mps_notes.specs.declared.rows.RowUse.{RowUse}
 use Rattle.mps_notes.specs.Names.{AreNames}
 use Rattle.mps_notes.specs.Rows.{with_kind, kinds_of, ArePlaced}

@@ -2,11 +2,12 @@
 use Rattle.std.proofs.Common.{◌≡◌, ℕ, zero, suc, ◌<◌, ◌≤◌, List, [], ◌∷◌, length, Option, Some, None, refl, sym, ap, ◌∙◌, arith}
 use Rattle.std.specs.Prelude.{slice_get, IfSome, true, false}
 use Rattle.program_law.specs.Places.{place_of}
-use Rattle.mps_grammar.specs.Told.{names_of, program_rows, used_names}
+use Rattle.mps_grammar.specs.Told.{program_rows, used_names}
 use Rattle.mps_notes.specs.declared.rows.RowUse.{RowUse}
 use Rattle.mps_notes.specs.declared.rows.Rows.TheInside.{Inside}
-use Rattle.named_things.specs.Named.{things_of}
+use Rattle.named_things.specs.Named.{names_of, things_of}
 use Rattle.named_things.specs.Names.{name_at}
+use Rattle.mps_notes.specs.Entries.{most_places}
 use Rattle.mps_notes.specs.Rows.{kinds_of, IsRows}
 use Rattle.named_things.proofs.PlaceLemmas.{place_below}
 use Rattle.named_things.proofs.NameLemmas.{eq_self, absent_parts}
@@ -29,7 +30,7 @@ pub place_within : (names : List (List ℕ)) (n : List ℕ) (o : Option ℕ) (mo
 place_within names n None most e few = tt
 place_within names n (Some k) most e few = omega (arith, place_below names n k (sym e))
 
-pub few_used : (rows : Inside) → IsRows rows → length (used_names (kinds_of rows.named)) ≤ 129
+pub few_used : (rows : Inside) → IsRows rows → length (used_names (kinds_of rows.named)) ≤ most_places
 few_used rows h = omega (arith, h.bound, h.few, names_length (program_rows (kinds_of rows.named)))
 
 pub absent_differs_at : (names : List (List ℕ)) (m n : List ℕ) (i : ℕ) → place_of names m ≡ None → slice_get names i ≡ Some n → n ≡ m → ⊥

@@ -3,8 +3,9 @@ use Rattle.std.proofs.Common.{◌≡◌, ℕ, ◌+◌, ◌<◌, Bool, true, fals
 use Rattle.std.specs.Prelude.{is_some}
 use Rattle.mps_tokens.specs.declared.words.RowKind.{RowKind}
 use Rattle.program_law.specs.Places.{place_of}
-use Rattle.program_law.specs.Program.{IsName, marker}
-use Rattle.mps_grammar.specs.Told.{names_of, binds, program_rows, objective_in, used_names}
+use Rattle.program_law.specs.Program.{IsName, marker, most_rows}
+use Rattle.named_things.specs.Named.{names_of}
+use Rattle.mps_grammar.specs.Told.{binds, program_rows, objective_in, used_names}
 use Rattle.mps_notes.specs.declared.rows.RowUse.{RowUse}
 use Rattle.mps_notes.specs.declared.rows.Rows.TheInside.{Inside}
 use Rattle.named_things.specs.Names.{Differ}
@@ -33,7 +34,7 @@ module _ (old : Inside) (h : IsRows old) (n : List ℕ) (kind : RowKind) (absent
   kinds : (p : Option ℕ) → kinds_of (old.named ++ (n, record { kind = kind; place = p }) ∷ []) ≡ kinds_of old.named ++ (n, kind) ∷ []
   kinds p = kinds_push old.named n (record { kind = kind; place = p })
 
-  pub bound_pushed : binds kind ≡ true → length (program_rows (kinds_of old.named)) < 128
+  pub bound_pushed : binds kind ≡ true → length (program_rows (kinds_of old.named)) < most_rows
       → IsRows (record { named = old.named ++ (n, record { kind = kind; place = Some (old.bound + 1) }) ∷ []; bound = old.bound + 1; objective = old.objective })
   bound_pushed b few =
       let p : Option ℕ = Some (old.bound + 1) in
@@ -75,7 +76,7 @@ module _ (old : Inside) (h : IsRows old) (n m : List ℕ) (kind : RowKind) (b : 
   gone_named : place_of (names_of old.named) n ≡ None
   gone_named = rw (← names_kinds old.named) absent
 
-  pub bound_done : b ≡ true → length (program_rows (kinds_of old.named)) < 128 → IsRows (record { named = new; bound = old.bound + 1; objective = old.objective })
+  pub bound_done : b ≡ true → length (program_rows (kinds_of old.named)) < most_rows → IsRows (record { named = new; bound = old.bound + 1; objective = old.objective })
   bound_done e few =
       let P : Named → Type 0 = λ l. IsRows (record { named = l; bound = old.bound + 1; objective = old.objective }) in
       let place : p ≡ Some (old.bound + 1) = p-is ∙ rw e refl in

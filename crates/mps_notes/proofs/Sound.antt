@@ -2,9 +2,10 @@
 use Rattle.std.proofs.Common.{◌≡◌, ℕ, ◌<◌, Bool, false, List, [], ◌∷◌, ◌++◌, length, Option, Some, None, refl, sym, ap, subst, ◌∙◌, arith, length-append}
 use Rattle.std.specs.Str.{bytes_eq}
 use Rattle.program_law.specs.Places.{place_of}
-use Rattle.program_law.specs.Program.{IsName}
+use Rattle.program_law.specs.Program.{IsName, most_columns}
 use Rattle.mps_tokens.specs.declared.words.RowKind.{RowKind}
-use Rattle.mps_grammar.specs.Told.{Told, Telling, BoundTelling, names_of, used_names}
+use Rattle.named_things.specs.Named.{names_of}
+use Rattle.mps_grammar.specs.Told.{Told, Telling, BoundTelling, used_names}
 use Rattle.mps_notes.specs.declared.numbers.Entry.{Entry}
 use Rattle.mps_notes.specs.declared.bounds.Bounds.{Bounds}
 use Rattle.mps_notes.specs.declared.sides.Sides.{Sides}
@@ -94,7 +95,7 @@ keeps_rows n name kind filled h absent =
 
 -- ---- a column more
 
-new_column : (n : Notes) (name : List ℕ) (marked : Bool) → IsSound n → IsName name → place_of (names_of n.columns) name ≡ None → length n.columns < 128
+new_column : (n : Notes) (name : List ℕ) (marked : Bool) → IsSound n → IsName name → place_of (names_of n.columns) name ≡ None → length n.columns < most_columns
     → Holds (record (told_in n) { columns = n.columns ++ (name, marked) ∷ [] }) (record n { columns = n.columns ++ (name, marked) ∷ [] })
 new_column n name marked h good absent few =
     let rn = names_of n.rows in
@@ -125,7 +126,7 @@ new_column n name marked h good absent few =
       };
     }
 
-pub keeps_columns : (n : Notes) (name : List ℕ) (marked : Bool) (o : Option ℕ) → IsSound n → IsName name → place_of (names_of n.columns) name ≡ o → (o ≡ None → length n.columns < 128)
+pub keeps_columns : (n : Notes) (name : List ℕ) (marked : Bool) (o : Option ℕ) → IsSound n → IsName name → place_of (names_of n.columns) name ≡ o → (o ≡ None → length n.columns < most_columns)
     → Holds (record (told_in n) { columns = with_name n.columns name marked }) (record n { columns = with_name n.columns name marked })
 keeps_columns n name marked (Some k) h good e few =
     let same : with_name n.columns name marked ≡ n.columns = rw e refl in

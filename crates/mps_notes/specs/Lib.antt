@@ -3,3 +3,5 @@ pub mod Rows
 pub mod Entries
 pub mod Told
 pub mod Notes
+pub mod Placed
+pub mod Twice

@@ -1,7 +1,9 @@
 -- What is kept of the lines, as what they tell.
 use Rattle.std.specs.Prelude.{◌≡◌, ℕ, ◌≤◌, Bool, is_some, List, [], ◌∷◌, ◌++◌, length, if◌then◌else◌}
 use Rattle.program_law.specs.Places.{place_of}
-use Rattle.mps_grammar.specs.Told.{Told, names_of, used_names}
+use Rattle.program_law.specs.Program.{most_columns}
+use Rattle.named_things.specs.Named.{names_of}
+use Rattle.mps_grammar.specs.Told.{Told, used_names}
 use Rattle.mps_notes.specs.declared.notes.Notes.{Notes}
 use Rattle.named_things.specs.Names.{Differ}
 use Rattle.mps_notes.specs.Names.{AreNames}
@@ -34,7 +36,7 @@ pub record IsSound (n : Notes) : Type 0 where
   pub rows_differ : Differ (names_of n.rows)
   pub column_names : AreNames (names_of n.columns)
   pub columns_differ : Differ (names_of n.columns)
-  pub few_columns : length n.columns ≤ 128
+  pub few_columns : length n.columns ≤ most_columns
   pub entries : AreEntries (names_of n.columns) (names_of n.rows) (used_names n.rows) n.entries
   pub sides : AreEntries no_column (names_of n.rows) (used_names n.rows) n.sides.numbers
   pub ranges : AreEntries no_column (names_of n.rows) (used_names n.rows) n.ranges.numbers

@@ -2,8 +2,9 @@
 use Rattle.std.specs.Prelude.{◌≡◌, ℕ, ◌≤◌, List, map, length, slice_get, Some, None, is_some}
 use Rattle.mps_tokens.specs.declared.words.RowKind.{RowKind}
 use Rattle.program_law.specs.Places.{place_of}
-use Rattle.program_law.specs.Program.{marker}
-use Rattle.mps_grammar.specs.Told.{names_of, program_rows, objective_in, used_names}
+use Rattle.program_law.specs.Program.{marker, most_rows}
+use Rattle.named_things.specs.Named.{names_of}
+use Rattle.mps_grammar.specs.Told.{program_rows, objective_in, used_names}
 use Rattle.mps_notes.specs.declared.rows.RowUse.{RowUse}
 use Rattle.mps_notes.specs.declared.rows.Rows.TheInside.{Inside}
 use Rattle.named_things.specs.Names.{Differ}
@@ -28,6 +29,6 @@ pub record IsRows (rows : Inside) : Type 0 where
   pub names : AreNames (names_of rows.named)
   pub no_marker : place_of (names_of rows.named) marker ≡ None
   pub bound : rows.bound ≡ length (program_rows (kinds_in rows))
-  pub few : rows.bound ≤ 128
+  pub few : rows.bound ≤ most_rows
   pub objective : rows.objective ≡ is_some (objective_in (kinds_in rows))
   pub placed : ArePlaced rows.named

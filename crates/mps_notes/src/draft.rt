@@ -2,10 +2,10 @@
 
 ghost use Rattle.std.specs.Prelude.{◌≡◌, ◌≢◌, ◌<◌, ◌≤◌, Some, length, slice_get};
 ghost use Rattle.program_law.specs.Places.{place_of};
-ghost use Rattle.program_law.specs.Program.{IsName, marker};
-ghost use Rattle.mps_grammar.specs.Told.{names_of, used_names};
+ghost use Rattle.program_law.specs.Program.{IsName, marker, most_columns};
+ghost use Rattle.mps_grammar.specs.Told.{used_names};
 ghost use Rattle.mps_grammar.specs.Programs.{is_quadobj, gives_pairs_once};
-ghost use Rattle.named_things.specs.Named.{things_of};
+ghost use Rattle.named_things.specs.Named.{names_of, things_of};
 ghost use Rattle.named_things.specs.Names.{Differ, name_at};
 ghost use Rattle.mps_notes.specs.Entries.{target_at};
 ghost use Rattle.mps_notes.specs.Told.{tellings_of, bounds_of, AreEntries, AreBounds};
@@ -88,7 +88,7 @@ impl Draft {
     /// How many columns there are.
     pub fn columns(&self) -> usize
         ensures count { result ≡ length self.now.columns }
-        ensures few { result ≤ 128 }
+        ensures few { result ≤ most_columns }
         ensures differ { Differ (names_of self.now.columns) }
     {
         self.notes.columns.len()

@@ -3,6 +3,7 @@
 
 mod bounds;
 mod draft;
+mod entries;
 mod notes;
 mod numbers;
 mod rows;
@@ -10,6 +11,7 @@ mod sides;
 
 pub use bounds::{Bound, Bounds};
 pub use draft::{Draft, gives_once};
+pub use entries::{Places, column_places, gives_pair_twice, gives_twice, put_items, row_places};
 pub use notes::Notes;
 pub use numbers::{Entry, Numbers, Target};
 pub use rows::{RowUse, Rows};

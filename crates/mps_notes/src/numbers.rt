@@ -1,17 +1,16 @@
 // Numbers that lines tell, with a table of what was told.
 
 ghost use Rattle.std.specs.Prelude.{◌≡◌, ◌<◌, ◌≤◌, ◌++◌, ◌∷◌, [], length, IfOk, IfSome, OnOk};
-ghost use Rattle.mps_notes.specs.Entries.{is_marked, target_at};
+ghost use Rattle.program_law.specs.Program.{most_columns};
+ghost use Rattle.mps_notes.specs.Entries.{most_places, is_marked, target_at};
 
 use frac_core::{Frac, Memory, Vector};
+use program_law::{MOST_COLUMNS, MOST_ROWS};
 use std::alloc::Global;
 use std::marker::Model;
 
-/// How many places a column's numbers have: those of the objective and of 128 rows.
-const HEIGHT: usize = 129;
-
-/// How many columns there may be.
-const WIDTH: usize = 128;
+/// How many places a column's numbers have: those of the objective and of the rows.
+const MOST_PLACES: usize = MOST_ROWS + 1;
 
 /// What a row of a file is for the program.
 #[derive(Clone, Copy, Debug, PartialEq, Eq)]
@@ -81,7 +80,7 @@ impl Numbers {
     pub fn new(alloc: Global) -> Result<Self, Memory>
         ensures { IfOk result (λ n. n ≡ []) }
     {
-        let marks = Vector::filled(alloc, HEIGHT * WIDTH, false)?;
+        let marks = Vector::filled(alloc, MOST_PLACES * MOST_COLUMNS, false)?;
         Ok(Numbers {
             entries: Vec::new(alloc),
             marks,
@@ -97,23 +96,23 @@ impl Numbers {
 
     /// Whether there is an entry for a column and a place.
     pub fn is_given(&self, column: usize, place: usize) -> bool
-        requires column { column < 128 }
-        requires place { place < 129 }
+        requires column { column < most_columns }
+        requires place { place < most_places }
         ensures { result ≡ is_marked self.now column place }
     {
-        self.marks.at(HEIGHT * column + place)
+        self.marks.at(MOST_PLACES * column + place)
     }
 
     /// Puts an entry last.
     pub fn push(&mut self, entry: Entry) -> Result<(), Memory>
-        requires column { entry.column < 128 }
-        requires place { IfSome entry.place (λ k. k < 129) }
+        requires column { entry.column < most_columns }
+        requires place { IfSome entry.place (λ k. k < most_places) }
         ensures { OnOk result (self.new ≡ self.old ++ entry ∷ []) }
     {
         let Entry { column, place, .. } = entry;
         self.entries.push(entry)?;
         if let Some(place) = place {
-            self.marks.set(HEIGHT * column + place, true);
+            self.marks.set(MOST_PLACES * column + place, true);
         }
         Ok(())
     }

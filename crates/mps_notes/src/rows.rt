@@ -2,21 +2,19 @@
 
 ghost use Rattle.std.specs.Prelude.{◌≡◌, ◌≢◌, ◌<◌, ◌≤◌, ◌++◌, ◌∷◌, [], ◌&&◌, nat_le, is_some, None, Some, true, length, slice_get, IfSome, OnOk};
 ghost use Rattle.program_law.specs.Places.{place_of};
-ghost use Rattle.program_law.specs.Program.{IsName, marker};
-ghost use Rattle.mps_grammar.specs.Told.{names_of, binds, program_rows, objective_in, used_names};
-ghost use Rattle.named_things.specs.Named.{things_of};
+ghost use Rattle.program_law.specs.Program.{IsName, marker, most_rows};
+ghost use Rattle.mps_grammar.specs.Told.{binds, program_rows, objective_in, used_names};
+ghost use Rattle.named_things.specs.Named.{names_of, things_of};
 ghost use Rattle.named_things.specs.Names.{Differ, name_at};
 ghost use Rattle.mps_notes.specs.Names.{AreNames};
-ghost use Rattle.mps_notes.specs.Entries.{place_after};
+ghost use Rattle.mps_notes.specs.Entries.{most_places, place_after};
 
 use frac_core::Memory;
 use mps_tokens::RowKind;
 use named_things::Named;
+use program_law::MOST_ROWS;
 use std::alloc::Global;
 use std::marker::Model;
-
-/// How many rows of the program there may be.
-const MOST_ROWS: usize = 128;
 
 /// A row's kind, and its place among the objective and the rows of the program, where it is one of them.
 #[derive(Clone, Copy)]
@@ -60,7 +58,7 @@ fn is_bound(kind: RowKind) -> bool
 
 /// The place of a row that comes after so many rows of the program, and after an objective or before it.
 fn next_place(binds: bool, bound: usize, objective: bool) -> Option<usize>
-    requires { bound ≤ 128 }
+    requires { bound ≤ most_rows }
     ensures { result ≡ place_after binds bound objective }
 {
     if binds {
@@ -122,7 +120,7 @@ impl Rows {
     pub fn place(&self, row: usize) -> Option<usize>
         requires { row < length self.now }
         ensures place { result ≡ place_of (used_names self.now) (name_at (names_of self.now) row) }
-        ensures within { IfSome result (λ k. k < 129) }
+        ensures within { IfSome result (λ k. k < most_places) }
     {
         self.named.thing(row).place
     }
@@ -136,7 +134,7 @@ impl Rows {
 
     /// Whether there is no room for another row of this kind.
     pub fn is_full(&self, kind: RowKind) -> bool
-        ensures { result ≡ (binds kind && nat_le 128 (length (program_rows self.now))) }
+        ensures { result ≡ (binds kind && nat_le most_rows (length (program_rows self.now))) }
     {
         is_bound(kind) && self.bound >= MOST_ROWS
     }
@@ -146,7 +144,7 @@ impl Rows {
         requires absent { place_of (names_of self.old) name.now ≡ None }
         requires name { IsName name.now }
         requires marker { name.now ≢ marker }
-        requires room { binds kind ≡ true → length (program_rows self.old) < 128 }
+        requires room { binds kind ≡ true → length (program_rows self.old) < most_rows }
         ensures { OnOk result (self.new ≡ self.old ++ (name.now, kind) ∷ []) }
     {
         let binds = is_bound(kind);

@@ -21,7 +21,8 @@ use Rattle.mps_grammar.specs.declared.kinds.FaultKind.{FaultKind}
 use Rattle.mps_grammar.specs.declared.kinds.FaultKind.TheVariants as kinds
 use Rattle.mps_grammar.specs.Lines.{field, is_comment, is_passed, is_indented}
 use Rattle.mps_grammar.specs.Fields.{Pair, Entries, row_kind_in, row_name_in, is_marker, entries_in, sides_in}
-use Rattle.mps_grammar.specs.Told.{Told, Telling, names_of, row_told, with_column, value_or_zero, with_pairs, with_sides, is_used, told_by}
+use Rattle.named_things.specs.Named.{names_of}
+use Rattle.mps_grammar.specs.Told.{Told, Telling, row_told, with_column, value_or_zero, with_pairs, with_sides, is_used, told_by}
 use Rattle.mps_grammar.specs.Faults.{first_of, is_long, named_row_tests, marker_tests, entry_tests, data_tests, section_tests, header_tests, shown_tests, is_beyond, is_plain, line_fault}
 use Rattle.mps_grammar.specs.After.{told_more, told_within, told_header, told_shown, counted, told_after}
 use Rattle.mps_grammar.specs.Verdict.{Fault, ends, unless, verdict}

@@ -14,7 +14,8 @@ use Rattle.rational.specs.Sums.{entry}
 use Rattle.rational.specs.Vectors.{row_at}
 use Rattle.program_law.specs.Program.{Program, IsProgram, IsName, IsRow, row_names, column_names, sides, marker}
 use Rattle.mps_tokens.specs.declared.words.RowKind.{RowKind}
-use Rattle.mps_grammar.specs.Told.{Told, Telling, names_of, binds, program_rows, objective_in, used_names, is_at, told_by}
+use Rattle.named_things.specs.Named.{names_of}
+use Rattle.mps_grammar.specs.Told.{Told, Telling, binds, program_rows, objective_in, used_names, is_at, told_by}
 use Rattle.mps_grammar.specs.Programs.{value_at, value_told, sides_of, row_of, column_of, pair_value, numbers_of, objective_of, program_of, first_line, is_lopsided, fault_at, range_fault, pair_fault, end_fault}
 use Rattle.mps_grammar.specs.declared.kinds.FaultKind.TheVariants as kinds
 use Rattle.mps_grammar.specs.Reading.{Spot, behind, read_of, told_of, told_verdict}
@@ -22,7 +23,7 @@ use Rattle.named_things.specs.Names.{Differ}
 use Rattle.named_things.proofs.NameLemmas.{ne_eq, absent_parts}
 use Rattle.mps_assembly.specs.Assembled.{last_value}
 use Rattle.mps_assembly.specs.Sound.{IsSound}
-use Rattle.mps_assembly.proofs.GoodSides.{IsRow-plain, IsRow-ranged}
+use Rattle.mps_tables.proofs.GoodSides.{IsRow-plain, IsRow-ranged}
 use Rattle.mps_assembly.proofs.Pairs.{or_other-none, last-pair, IsLevel}
 use Rattle.mps_assembly.proofs.UsedNames.{used-differ}
 use Rattle.mps_reader.proofs.SoundLines.{IsWhole, told-whole}

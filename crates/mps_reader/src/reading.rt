@@ -10,11 +10,12 @@ ghost use Rattle.mps_assembly.specs.Sound.{IsSound};
 ghost use Rattle.mps_reader.specs.Reading.{Reads};
 
 use mps_assembly::finish;
-use mps_lines::{Draft, Place, ReadStop, told};
+use mps_lines::{Place, ReadStop, told};
+use mps_notes::Draft;
 use program_data::Program;
 use std::alloc::Global;
 
-// The program of what is told, and the place behind its lines.
+/// The program of what is told, and the place behind its lines.
 fn finished(alloc: Global, draft: &Draft, place: Place) -> Result<(Program, Place), ReadStop>
     requires sound { IsSound draft.now }
     requires columns { list_any is_columns draft.now.sections ≡ true }

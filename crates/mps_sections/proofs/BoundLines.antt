@@ -5,7 +5,8 @@ use Rattle.program_law.specs.Places.{place_of}
 use Rattle.mps_tokens.specs.declared.words.BoundKind.{BoundKind}
 use Rattle.mps_grammar.specs.declared.kinds.FaultKind.TheVariants as kinds
 use Rattle.mps_grammar.specs.Fields.{Bounded}
-use Rattle.mps_grammar.specs.Told.{names_of, is_used, bound_value, with_bound}
+use Rattle.named_things.specs.Named.{names_of}
+use Rattle.mps_grammar.specs.Told.{is_used, bound_value, with_bound}
 use Rattle.mps_grammar.specs.Faults.{Tests, first_of, is_long, of_number, is_no_number, is_past, bounded_tests}
 use Rattle.mps_notes.specs.declared.bounds.Bound.{Bound}
 use Rattle.mps_notes.specs.declared.bounds.Bounds.{Bounds}

@@ -10,7 +10,8 @@ use Rattle.mps_grammar.specs.declared.kinds.FaultKind.{FaultKind}
 use Rattle.mps_grammar.specs.declared.kinds.FaultKind.TheVariants as kinds
 use Rattle.mps_tokens.specs.declared.words.Section.TheVariants as sections
 use Rattle.mps_grammar.specs.Fields.{Pair, is_marker, entries_in}
-use Rattle.mps_grammar.specs.Told.{Told, Telling, names_of, used_names, is_told, with_column, with_pairs}
+use Rattle.named_things.specs.Named.{names_of}
+use Rattle.mps_grammar.specs.Told.{Told, Telling, used_names, is_told, with_column, with_pairs}
 use Rattle.mps_grammar.specs.After.{told_more}
 use Rattle.mps_grammar.specs.Faults.{first_of, gives_twice, has_long, data_tests}
 use Rattle.mps_notes.specs.declared.numbers.Entry.{Entry}
@@ -18,18 +19,18 @@ use Rattle.mps_fields.specs.declared.pairs.Item.{Item}
 use Rattle.mps_notes.specs.declared.notes.Notes.{Notes}
 use Rattle.mps_sections.specs.declared.stop.LineStop.{LineStop}
 use Rattle.mps_sections.specs.declared.stop.LineStop.TheVariants as stops
-use Rattle.mps_sections.specs.Twice.{twice_at}
+use Rattle.mps_notes.specs.Twice.{is_counted, twice_at}
 use Rattle.mps_fields.specs.Resolved.{pair_tests, AreItems}
-use Rattle.mps_sections.specs.Placed.{row_place, second_place, items_entries}
+use Rattle.mps_notes.specs.Placed.{row_place, second_place, items_entries}
 use Rattle.mps_notes.specs.Told.{tellings_of}
 use Rattle.mps_notes.specs.Notes.{told_in, IsSound}
 use Rattle.mps_notes.specs.Notes.{Holds, with_name}
-use Rattle.mps_sections.specs.Steps.{is_counted, item_tests, is_too_many, PlacesColumn, TakesItems, TakesData}
+use Rattle.mps_sections.specs.Steps.{item_tests, is_too_many, PlacesColumn, TakesItems, TakesData}
 use Rattle.named_things.proofs.PlaceLemmas.{place_pushed}
 use Rattle.mps_notes.proofs.RowLemmas.{names_push, names_length}
 use Rattle.mps_sections.proofs.TestChains.{first_front, first_rest}
-use Rattle.mps_sections.proofs.Twice.{twice_same}
-use Rattle.mps_sections.proofs.Puts.{place_for, put_done}
+use Rattle.mps_notes.proofs.Twice.{twice_same}
+use Rattle.mps_notes.proofs.Puts.{place_for, put_done}
 use Rattle.mps_notes.proofs.Sound.{keeps_columns, keeps_entries}
 
 -- ---- the column

@@ -1,5 +1,3 @@
-pub mod Twice
-pub mod Puts
 pub mod TestChains
 pub mod EntryLines
 pub mod SideLines

@@ -9,7 +9,8 @@ use Rattle.mps_tokens.specs.declared.words.Section.TheVariants as sections
 use Rattle.mps_grammar.specs.declared.kinds.FaultKind.{FaultKind}
 use Rattle.mps_grammar.specs.declared.kinds.FaultKind.TheVariants as kinds
 use Rattle.mps_grammar.specs.Fields.{Pair, entries_in}
-use Rattle.mps_grammar.specs.Told.{Told, Telling, names_of, is_told, is_quadratic, quadratic_number, with_pairs}
+use Rattle.named_things.specs.Named.{names_of}
+use Rattle.mps_grammar.specs.Told.{Told, Telling, is_told, is_quadratic, quadratic_number, with_pairs}
 use Rattle.mps_grammar.specs.Programs.{is_quadobj}
 use Rattle.mps_grammar.specs.After.{told_more}
 use Rattle.mps_grammar.specs.Faults.{Tests, first_of, gives_twice, has_long, any_pair, is_given_pair, data_tests}
@@ -20,9 +21,9 @@ use Rattle.mps_notes.specs.declared.notes.Notes.{Notes}
 use Rattle.mps_sections.specs.declared.stop.LineStop.{LineStop}
 use Rattle.mps_sections.specs.declared.stop.LineStop.TheVariants as stops
 use Rattle.named_things.specs.Names.{Differ, name_at}
-use Rattle.mps_sections.specs.Twice.{pair_given, pair_twice}
+use Rattle.mps_notes.specs.Twice.{pair_given, pair_twice}
 use Rattle.mps_fields.specs.Resolved.{number_in, pair_tests, IsItem, AreItems, Resolves}
-use Rattle.mps_sections.specs.Placed.{second_column, items_entries}
+use Rattle.mps_notes.specs.Placed.{second_column, items_entries}
 use Rattle.mps_notes.specs.Told.{tellings_of, AreEntries}
 use Rattle.mps_notes.specs.Notes.{told_in, IsSound}
 use Rattle.mps_notes.specs.Notes.{Holds}
@@ -30,7 +31,7 @@ use Rattle.mps_sections.specs.Steps.{is_half, TakesPairItems, TakesData}
 use Rattle.named_things.proofs.NameLemmas.{same_test}
 use Rattle.mps_sections.proofs.TestChains.{first_front, first_rest}
 use Rattle.mps_notes.proofs.Tellings.{name_from_place, eqb_comm, told_marked}
-use Rattle.mps_sections.proofs.Puts.{place_for, put_done}
+use Rattle.mps_notes.proofs.Puts.{place_for, put_done}
 use Rattle.mps_notes.proofs.Sound.{keeps_pairs}
 
 -- the numbers of a quadratic section

@@ -5,7 +5,8 @@ use Rattle.std.specs.Str.{bytes_eq}
 use Rattle.program_law.specs.Places.{place_of}
 use Rattle.program_law.specs.Program.{marker}
 use Rattle.mps_tokens.specs.declared.words.RowKind.{RowKind}
-use Rattle.mps_grammar.specs.Told.{names_of, binds, program_rows}
+use Rattle.named_things.specs.Named.{names_of}
+use Rattle.mps_grammar.specs.Told.{binds, program_rows}
 use Rattle.mps_grammar.specs.Faults.{is_long}
 use Rattle.mps_notes.specs.declared.notes.Notes.{Notes}
 use Rattle.named_things.specs.Names.{name_at}

@@ -6,22 +6,23 @@ use Rattle.mps_tokens.specs.Numbers.{number_of}
 use Rattle.mps_grammar.specs.declared.kinds.FaultKind.{FaultKind}
 use Rattle.mps_grammar.specs.declared.kinds.FaultKind.TheVariants as kinds
 use Rattle.mps_grammar.specs.Fields.{Pair, Entries, sides_in}
-use Rattle.mps_grammar.specs.Told.{Told, names_of, used_names, is_told, is_used, first_named}
+use Rattle.named_things.specs.Named.{names_of}
+use Rattle.mps_grammar.specs.Told.{Told, used_names, is_told, is_used, first_named}
 use Rattle.mps_grammar.specs.Faults.{Tests, first_of, gives_twice, has_long, side_tests}
 use Rattle.mps_fields.specs.declared.pairs.Item.{Item}
 use Rattle.mps_notes.specs.declared.sides.Sides.{Sides}
 use Rattle.mps_notes.specs.declared.notes.Notes.{Notes}
 use Rattle.mps_sections.specs.declared.stop.LineStop.{LineStop}
 use Rattle.mps_sections.specs.declared.stop.LineStop.TheVariants as stops
-use Rattle.mps_sections.specs.Twice.{twice_at}
+use Rattle.mps_notes.specs.Twice.{is_counted, twice_at}
 use Rattle.mps_fields.specs.Resolved.{pair_tests, AreItems}
-use Rattle.mps_sections.specs.Placed.{row_place, second_place, items_entries}
+use Rattle.mps_notes.specs.Placed.{row_place, second_place, items_entries}
 use Rattle.mps_notes.specs.Told.{tellings_of, AreEntries, text_in}
 use Rattle.mps_notes.specs.Notes.{no_column, told_in, IsSound}
-use Rattle.mps_sections.specs.Steps.{Judged, is_counted, SidesDone, TakesSideItems, TakesData}
+use Rattle.mps_sections.specs.Steps.{Judged, SidesDone, TakesSideItems, TakesData}
 use Rattle.mps_sections.proofs.TestChains.{first_front, first_rest}
-use Rattle.mps_sections.proofs.Twice.{twice_same}
-use Rattle.mps_sections.proofs.Puts.{put_done}
+use Rattle.mps_notes.proofs.Twice.{twice_same}
+use Rattle.mps_notes.proofs.Puts.{put_done}
 use Rattle.mps_sections.proofs.EntryLines.{second_is}
 use Rattle.mps_notes.proofs.Sound.{keeps_sides, keeps_ranges}
 

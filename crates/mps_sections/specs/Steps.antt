@@ -1,7 +1,8 @@
 -- What a data line does to what is kept.
-use Rattle.std.specs.Prelude.{◌≡◌, ℕ, ◌+◌, ◌&&◌, nat_le, Bool, is_some, is_none, true, false, List, [], ◌∷◌, ◌++◌, length, Option, Some, None, Result, Ok, Err, ⊤, if◌then◌else◌}
+use Rattle.std.specs.Prelude.{◌≡◌, ℕ, ◌+◌, ◌&&◌, nat_le, Bool, is_none, true, false, List, [], ◌∷◌, ◌++◌, length, Option, Some, None, Result, Ok, Err, ⊤, if◌then◌else◌}
 use Rattle.rational.specs.Rational.{ℚ}
 use Rattle.program_law.specs.Places.{place_of}
+use Rattle.program_law.specs.Program.{most_columns}
 use Rattle.mps_tokens.specs.Numbers.{number_of}
 use Rattle.mps_tokens.specs.declared.words.Section.{Section}
 use Rattle.mps_tokens.specs.declared.words.Section.TheVariants as sections
@@ -10,7 +11,8 @@ use Rattle.mps_tokens.specs.declared.words.BoundKind.{BoundKind}
 use Rattle.mps_grammar.specs.declared.kinds.FaultKind.{FaultKind}
 use Rattle.mps_grammar.specs.declared.kinds.FaultKind.TheVariants as kinds
 use Rattle.mps_grammar.specs.Fields.{Pair, Entries, Bounded}
-use Rattle.mps_grammar.specs.Told.{Told, names_of, used_names, is_told, with_column, with_pairs, set_of, first_named, is_used, with_sides, with_bound, bound_value, quadratic_number}
+use Rattle.named_things.specs.Named.{names_of}
+use Rattle.mps_grammar.specs.Told.{Told, used_names, is_told, with_column, with_pairs, set_of, first_named, is_used, with_sides, with_bound, bound_value, quadratic_number}
 use Rattle.mps_grammar.specs.After.{told_more}
 use Rattle.mps_grammar.specs.Faults.{Tests, first_of, gives_twice, counts_row, any_pair, is_given_pair, named_row_tests, bounded_tests, of_number, is_no_number, is_past, data_tests}
 use Rattle.mps_sections.specs.declared.stop.LineStop.{LineStop}
@@ -21,6 +23,7 @@ use Rattle.mps_notes.specs.declared.bounds.Bound.{Bound}
 use Rattle.mps_notes.specs.declared.bounds.Bounds.{Bounds}
 use Rattle.mps_notes.specs.Told.{tellings_of, AreEntries, text_in}
 use Rattle.mps_notes.specs.Notes.{no_column, told_in, Holds, with_name}
+use Rattle.mps_notes.specs.Twice.{is_counted}
 
 -- No test holds and all is done, or the fault is that of the first test that holds, or memory ran out.
 abbrev pub Judged : {A : Type 0} → Tests → (A → Type 0) → Result A LineStop → Type 0
@@ -39,7 +42,7 @@ TakesNamed old kind name new result =
 -- the pairs of a column with this name, whose rows are known and whose numbers are read
 abbrev pub item_tests : Told → List ℕ → List Pair → Tests
 item_tests told name pairs =
-    (gives_twice (counts_row told) (is_told told.entries name) pairs, kinds.EntryTwice) ∷ (is_none (place_of (names_of told.columns) name) && nat_le 128 (length told.columns), kinds.TooMany) ∷ []
+    (gives_twice (counts_row told) (is_told told.entries name) pairs, kinds.EntryTwice) ∷ (is_none (place_of (names_of told.columns) name) && nat_le most_columns (length told.columns), kinds.TooMany) ∷ []
 
 abbrev pub TakesItems : Notes → List ℕ → List Pair → Notes → Result Unit LineStop → Type 0
 TakesItems old name pairs new result =
@@ -51,17 +54,13 @@ TakesItems old name pairs new result =
 
 -- whether a column is one too many
 abbrev pub is_too_many : List (List ℕ × Bool) → List ℕ → Bool
-is_too_many columns name = is_none (place_of (names_of columns) name) && nat_le 128 (length columns)
+is_too_many columns name = is_none (place_of (names_of columns) name) && nat_le most_columns (length columns)
 
 -- a column has its place, or there are too many
 abbrev pub PlacesColumn : List (List ℕ × Bool) → List (List ℕ × Bool) → List ℕ → Bool → Result ℕ LineStop → Type 0
 PlacesColumn old new name marked (Ok place) = (is_too_many old name ≡ false) × (place_of (names_of new) name ≡ Some place) × (new ≡ with_name old name marked)
 PlacesColumn old new name marked (Err stops.Memory) = ⊤
 PlacesColumn old new name marked (Err (stops.Fault kind)) = (kind ≡ kinds.TooMany) × (is_too_many old name ≡ true)
-
--- a row that counts for what is given twice: the objective, or a row of the program
-abbrev pub is_counted : List (List ℕ × RowKind) → List ℕ → Bool
-is_counted rows name = is_some (place_of (used_names rows) name)
 
 -- a line of right sides or ranges of these rows
 pub record SidesDone (rows : List (List ℕ × RowKind)) (old new : Sides) (line : ℕ) (sides : Option Entries) : Type 0 where

@@ -3,31 +3,28 @@
 ghost use Rattle.std.specs.Prelude.{◌≡◌, ◌+◌, ◌<◌, ◌≤◌, ◌^◌, List, true, false, length, IfOk};
 ghost use Rattle.std.specs.List.{list_all};
 ghost use Rattle.program_law.specs.Places.{place_of};
-ghost use Rattle.program_law.specs.Program.{IsName};
+ghost use Rattle.program_law.specs.Program.{IsName, most_columns};
 ghost use Rattle.mps_tokens.specs.declared.words.Section.TheVariants as sections;
 ghost use Rattle.mps_tokens.specs.Numbers.{number_of};
 ghost use Rattle.mps_grammar.specs.Fields.{Pair, is_marker};
-ghost use Rattle.mps_grammar.specs.Told.{names_of};
+ghost use Rattle.named_things.specs.Named.{names_of};
 ghost use Rattle.mps_grammar.specs.Faults.{is_wrong_stretch};
 ghost use Rattle.mps_fields.specs.Words.{is_word};
 ghost use Rattle.mps_fields.specs.Resolved.{AreItems};
-ghost use Rattle.mps_sections.specs.Placed.{AreWithin};
+ghost use Rattle.mps_notes.specs.Placed.{AreWithin};
 ghost use Rattle.mps_notes.specs.Notes.{IsSound};
 ghost use Rattle.mps_sections.specs.Steps.{TakesData, TakesItems, PlacesColumn};
 
-use crate::entries::{gives_twice, put_items, row_places};
 use crate::stop::LineStop;
 use mps_fields::{
     Items, entries_of, has_long, is_long, is_marker_line, is_stretch_begin, is_stretch_end, resolve,
 };
 use mps_grammar::FaultKind;
-use mps_notes::Notes;
+use mps_notes::{Notes, gives_twice, put_items, row_places};
 use mps_tokens::Parts;
 use named_things::Named;
+use program_law::MOST_COLUMNS;
 use std::alloc::Global;
-
-/// How many columns there may be.
-const MOST_COLUMNS: usize = 128;
 
 /// Whether a marker's word is neither of the two, or begins a stretch in one, or ends one outside.
 fn is_wrong(begun: bool, word: &[u8]) -> bool
@@ -68,9 +65,9 @@ fn place_column(
     found: Option<usize>,
 ) -> Result<usize, LineStop>
     requires found { found ≡ place_of (names_of columns.old) name.now }
-    requires few { length columns.old ≤ 128 }
+    requires few { length columns.old ≤ most_columns }
     ensures column { PlacesColumn columns.old columns.new name.now marked result }
-    ensures within { IfOk result (λ j. j < 128) }
+    ensures within { IfOk result (λ j. j < most_columns) }
 {
     if let Some(place) = found {
         return Ok(place);

@@ -4,7 +4,6 @@
 mod bounds;
 mod columns;
 mod data;
-mod entries;
 mod quadratic;
 mod row_lines;
 mod sides;

@@ -3,18 +3,17 @@
 ghost use Rattle.std.specs.Prelude.{◌≡◌, ◌<◌, ◌+◌, ◌^◌, ℕ, List, Some, true, length};
 ghost use Rattle.program_law.specs.Places.{place_of};
 ghost use Rattle.mps_grammar.specs.Fields.{Pair};
-ghost use Rattle.mps_grammar.specs.Told.{names_of, quadratic_number, is_quadratic};
-ghost use Rattle.mps_sections.specs.Twice.{pair_given, pair_twice};
+ghost use Rattle.named_things.specs.Named.{names_of};
+ghost use Rattle.mps_grammar.specs.Told.{quadratic_number, is_quadratic};
 ghost use Rattle.mps_fields.specs.Resolved.{AreItems};
-ghost use Rattle.mps_sections.specs.Placed.{AreWithin, column_places_of};
+ghost use Rattle.mps_notes.specs.Placed.{AreWithin};
 ghost use Rattle.mps_notes.specs.Notes.{IsSound};
 ghost use Rattle.mps_sections.specs.Steps.{TakesData, TakesPairItems, is_half};
 
-use crate::entries::{Places, put_items};
 use crate::stop::LineStop;
 use mps_fields::{Items, entries_of, has_long, resolve};
 use mps_grammar::FaultKind;
-use mps_notes::{Notes, Numbers, gives_once};
+use mps_notes::{Notes, column_places, gives_once, gives_pair_twice, put_items};
 use mps_tokens::{Parts, Section};
 
 /// Whether the section gives the entries of D, where Q is 2D.
@@ -22,41 +21,6 @@ fn gives_half(section: Section) -> bool
     ensures { result ≡ is_half section }
 {
     matches!(section, Section::DMatrix)
-}
-
-/// The places of columns.
-fn column_places(items: &Items) -> Places
-    ensures { result ≡ column_places_of items.now }
-{
-    let second = match items.second {
-        Some(item) => Some(item.place),
-        None => None,
-    };
-    let first = Some(items.first.place);
-    Places { first, second }
-}
-
-/// Whether a pair was given, where `once` says that its order isn't looked at.
-fn is_pair_given(numbers: &Numbers, once: bool, one: usize, other: usize) -> bool
-    requires one { one < 128 }
-    requires other { other < 128 }
-    ensures { result ≡ pair_given numbers.now once one other }
-{
-    numbers.is_given(one, other) || once && numbers.is_given(other, one)
-}
-
-/// Whether a line gives a pair that was given before, by an earlier line or earlier on this one.
-fn gives_pair_twice(numbers: &Numbers, once: bool, column: usize, items: &Items) -> bool
-    requires column { column < 128 }
-    requires items { AreWithin 128 items.now }
-    ensures { result ≡ pair_twice numbers.now once column items.now.first.place (column_places_of items.now).second }
-{
-    let first = items.first.place;
-    let again = match items.second {
-        Some(item) => item.place == first || is_pair_given(numbers, once, column, item.place),
-        None => false,
-    };
-    is_pair_given(numbers, once, column, first) || again
 }
 
 /// The items of a line of a quadratic section, for a column.

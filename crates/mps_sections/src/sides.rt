@@ -3,20 +3,20 @@
 ghost use Rattle.std.specs.Prelude.{◌≡◌, List, length};
 ghost use Rattle.mps_tokens.specs.Numbers.{number_of};
 ghost use Rattle.mps_grammar.specs.Fields.{Pair, sides_in};
-ghost use Rattle.mps_grammar.specs.Told.{Told, names_of, used_names};
+ghost use Rattle.named_things.specs.Named.{names_of};
+ghost use Rattle.mps_grammar.specs.Told.{Told, used_names};
 ghost use Rattle.mps_grammar.specs.Faults.{side_tests};
 ghost use Rattle.named_things.specs.Names.{Differ};
 ghost use Rattle.mps_fields.specs.Resolved.{AreItems};
 ghost use Rattle.mps_notes.specs.Told.{tellings_of, AreEntries, text_in};
 ghost use Rattle.mps_notes.specs.Notes.{no_column};
-ghost use Rattle.mps_sections.specs.Placed.{AreWithin};
+ghost use Rattle.mps_notes.specs.Placed.{AreWithin};
 ghost use Rattle.mps_sections.specs.Steps.{Judged, SidesDone, TakesSideItems};
 
-use crate::entries::{gives_twice, put_items, row_places};
 use crate::stop::LineStop;
 use mps_fields::{Items, has_long, resolve, sides_of};
 use mps_grammar::FaultKind;
-use mps_notes::{Rows, Sides, is_used, name_set};
+use mps_notes::{Rows, Sides, gives_twice, is_used, name_set, put_items, row_places};
 use mps_tokens::Parts;
 use std::alloc::Global;
 

@@ -4,9 +4,9 @@ ghost use Rattle.std.specs.Prelude.{◌≡◌, ◌++◌, ◌∷◌, [], ◌||◌
 ghost use Rattle.mps_writer_law.specs.Lines.{lines_text, behind, has_lines, data_line};
 ghost use Rattle.mps_writer_law.specs.Canonical.{bound_line, low_lines, both_lines, bound_lines, bounds_lines};
 
-use crate::lines::{Field, push_in_section};
 use crate::parts::column_name;
 use frac_core::{Frac, Memory};
+use mps_line_writer::{Field, push_in_section};
 use program_data::Program;
 use program_law::Row;
 

@@ -5,9 +5,9 @@ ghost use Rattle.mps_tokens.specs.Written.{ended};
 ghost use Rattle.mps_writer_law.specs.Lines.{lines_text, each};
 ghost use Rattle.mps_writer_law.specs.Canonical.{turn_lines, cost_line, entry_lines, marked_before, column_lines, columns_lines};
 
-use crate::lines::{Field, push_line, push_word};
 use crate::parts::{column_name, row_name};
 use frac_core::Memory;
+use mps_line_writer::{Field, push_line, push_word};
 use program_data::Program;
 
 /// Puts the line last that begins or ends a stretch of marked columns, where the mark turns.

@@ -3,8 +3,6 @@
 
 mod bounds;
 mod columns;
-mod lines;
-mod numbers;
 mod pairs;
 mod parts;
 mod rows;

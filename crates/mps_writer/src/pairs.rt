@@ -4,9 +4,9 @@ ghost use Rattle.std.specs.Prelude.{◌≡◌, ◌<◌, ◌++◌, ◌||◌, code
 ghost use Rattle.mps_writer_law.specs.Lines.{lines_text, behind, has_lines};
 ghost use Rattle.mps_writer_law.specs.Canonical.{pair_lines, row_pair_lines, pairs_lines};
 
-use crate::lines::{Field, push_in_section};
 use crate::parts::column_name;
 use frac_core::Memory;
+use mps_line_writer::{Field, push_in_section};
 use program_data::Program;
 
 /// Puts the line of an entry of Q last, unless it is 0, and answers whether the section is begun.

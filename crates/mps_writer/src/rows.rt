@@ -5,9 +5,9 @@ ghost use Rattle.mps_writer_law.specs.Lines.{lines_text};
 ghost use Rattle.mps_writer_law.specs.Canonical.{kind_word, row_line, rows_lines};
 ghost use Rattle.mps_tokens.specs.Written.{ended};
 
-use crate::lines::{Field, push_line, push_word};
 use crate::parts::row_name;
 use frac_core::Memory;
+use mps_line_writer::{Field, push_line, push_word};
 use program_data::Program;
 use program_law::Row;
 
@@ -16,7 +16,7 @@ fn kind_word(sides: Row) -> &'static [u8]
     ensures { result.now ≡ kind_word sides.low sides.high }
 {
     match (sides.low, sides.high) {
-        (Some(low), Some(high)) if low.same(high) => b"E",
+        (Some(low), Some(high)) => { if low == high { b"E" } else { b"G" } }
         (None, Some(_)) => b"L",
         _ => b"G",
     }

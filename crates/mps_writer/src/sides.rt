@@ -5,9 +5,9 @@ ghost use Rattle.program_law.specs.Program.{IsRow};
 ghost use Rattle.mps_writer_law.specs.Lines.{lines_text, behind, has_lines, unless_zero};
 ghost use Rattle.mps_writer_law.specs.Canonical.{right_side, width, range_lines, right_sides_lines, ranges_lines};
 
-use crate::lines::{Field, push_in_section};
 use crate::parts::row_name;
 use frac_core::{Frac, Memory, Tried};
+use mps_line_writer::{Field, push_in_section};
 use program_data::Program;
 use program_law::Row;
 
@@ -50,12 +50,15 @@ fn width(sides: Row) -> Option<Frac>
     requires { IsRow sides }
     ensures { result ≡ width sides.low sides.high }
 {
-    match (sides.low, sides.high) {
-        (Some(low), Some(high)) if !low.same(high) => match high - low {
-            Tried::Is(width) => Some(width),
-            Tried::Past(_) => unreachable!(),
-        },
-        _ => None,
+    let (Some(low), Some(high)) = (sides.low, sides.high) else {
+        return None;
+    };
+    if low == high {
+        return None;
+    }
+    match high - low {
+        Tried::Is(width) => Some(width),
+        Tried::Past(_) => unreachable!(),
     }
 }
 

@@ -22,7 +22,7 @@ fn show_number(number: Frac)
     let _den = number.den();
 }
 
-/// Shows that sides are.
+/// Shows that the numbers of two sides are.
 fn show_sides(sides: Row)
     ensures { HasSmallSides sides }
 {
@@ -34,13 +34,12 @@ fn show_sides(sides: Row)
     }
 }
 
-/// Shows that the entries of a row are.
-fn show_row(p: &Program, i: u32)
-    requires { i < length p.now.rows }
-    ensures { (j : ℕ) → j < length p.now.columns → Fits max_part (entry (row_at p.now.entries i) j) }
+/// Shows that a list of numbers is.
+fn show_each(numbers: &[Frac])
+    ensures { (j : ℕ) → j < length numbers.now → Fits max_part (entry numbers.now j) }
 {
-    for j in 0..p.columns() {
-        show_number(p.entry(i, j));
+    for number in numbers {
+        show_number(*number);
     }
 }
 
@@ -49,26 +48,7 @@ fn show_entries(p: &Program)
     ensures { (i j : ℕ) → i < length p.now.rows → j < length p.now.columns → Fits max_part (entry (row_at p.now.entries i) j) }
 {
     for i in 0..p.rows() {
-        show_row(p, i);
-    }
-}
-
-/// Shows that the costs are.
-fn show_costs(p: &Program)
-    ensures { (j : ℕ) → j < length p.now.columns → Fits max_part (entry p.now.costs j) }
-{
-    for j in 0..p.columns() {
-        show_number(p.cost(j));
-    }
-}
-
-/// Shows that the entries of a row of Q are.
-fn show_pairs_of(p: &Program, j: u32)
-    requires { j < length p.now.columns }
-    ensures { (k : ℕ) → k < length p.now.columns → Fits max_part (entry (row_at p.now.pairs j) k) }
-{
-    for k in 0..p.columns() {
-        show_number(p.pair(j, k));
+        show_each(p.entries_of(i));
     }
 }
 
@@ -77,7 +57,7 @@ fn show_pairs(p: &Program)
     ensures { (j k : ℕ) → j < length p.now.columns → k < length p.now.columns → Fits max_part (entry (row_at p.now.pairs j) k) }
 {
     for j in 0..p.columns() {
-        show_pairs_of(p, j);
+        show_each(p.pairs_of(j));
     }
 }
 
@@ -105,7 +85,7 @@ pub(crate) fn show_numbers(p: &Program)
     ensures program { IsProgram p.now }
 {
     show_entries(p);
-    show_costs(p);
+    show_each(p.costs());
     show_number(p.constant());
     show_pairs(p);
     show_rows(p);

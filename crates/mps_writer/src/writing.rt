@@ -7,12 +7,12 @@ ghost use Rattle.mps_writer_law.specs.Canonical.{text_of_program};
 
 use crate::bounds::push_bounds;
 use crate::columns::push_columns;
-use crate::lines::push_word;
 use crate::pairs::push_pairs;
 use crate::rows::push_rows;
 use crate::sides::{push_ranges, push_right_sides};
 use crate::small::show_read_back;
 use frac_core::Memory;
+use mps_line_writer::push_word;
 use program_data::Program;
 use std::alloc::Global;
 

@@ -7,7 +7,8 @@ use Rattle.program_law.specs.Program.{Program}
 use Rattle.mps_tokens.specs.declared.words.RowKind.{RowKind}
 use Rattle.mps_tokens.specs.Cases.{named}
 use Rattle.mps_grammar.specs.declared.kinds.FaultKind.TheVariants as kinds
-use Rattle.mps_grammar.specs.Told.{Told, Telling, is_at, names_of, program_rows}
+use Rattle.named_things.specs.Named.{names_of}
+use Rattle.mps_grammar.specs.Told.{Told, Telling, is_at, program_rows}
 use Rattle.mps_grammar.specs.Programs.{or_other, value_at, sides_of, column_of, gives_pairs_once, objective_of, program_of, makes_past, is_range_past, is_lopsided, first_line, fault_at, range_fault, pair_fault, end_fault}
 use Rattle.mps_writer_law.proofs.Erased.{bare, erase}
 

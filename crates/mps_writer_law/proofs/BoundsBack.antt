@@ -19,7 +19,8 @@ use Rattle.mps_tokens.specs.declared.words.BoundKind.{BoundKind}
 use Rattle.mps_tokens.specs.declared.words.BoundKind.TheVariants as bound_kinds
 use Rattle.mps_grammar.specs.declared.kinds.FaultKind.TheVariants as kinds
 use Rattle.mps_grammar.specs.Fields.{Bounded, bound_in, bound_kind_in}
-use Rattle.mps_grammar.specs.Told.{Told, Telling, BoundTelling, names_of, is_used, first_named, bound_value, bound_set_of, with_bound, value_or_zero}
+use Rattle.named_things.specs.Named.{names_of}
+use Rattle.mps_grammar.specs.Told.{Told, Telling, BoundTelling, is_used, first_named, bound_value, bound_set_of, with_bound, value_or_zero}
 use Rattle.mps_grammar.specs.Faults.{first_of, is_long, is_no_number, is_past, of_number, bounded_tests, bound_tests, header_tests, data_tests}
 use Rattle.mps_grammar.specs.Programs.{bounds_for, bounded}
 use Rattle.mps_writer_law.specs.Lines.{each, data_line, number_line, has_lines}

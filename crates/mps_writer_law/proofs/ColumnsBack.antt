@@ -16,7 +16,8 @@ use Rattle.mps_tokens.specs.declared.fault.NumberFault.{NumberFault}
 use Rattle.mps_tokens.specs.declared.words.Section.TheVariants as sections
 use Rattle.mps_grammar.specs.declared.kinds.FaultKind.TheVariants as kinds
 use Rattle.mps_grammar.specs.Fields.{Entries}
-use Rattle.mps_grammar.specs.Told.{Told, Telling, names_of, is_told, with_column, with_entries, value_or_zero}
+use Rattle.named_things.specs.Named.{names_of}
+use Rattle.mps_grammar.specs.Told.{Told, Telling, is_told, with_column, with_entries, value_or_zero}
 use Rattle.mps_grammar.specs.Faults.{first_of, is_long, is_no_number, is_past, counts_row, entry_tests, marker_tests, data_tests}
 use Rattle.mps_writer_law.specs.Lines.{each, number_line}
 use Rattle.mps_writer_law.specs.Small.{HasSmallNumbers}

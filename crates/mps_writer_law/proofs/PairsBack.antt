@@ -12,7 +12,8 @@ use Rattle.rational.specs.Vectors.{row_at}
 use Rattle.program_law.specs.Places.{place_of}
 use Rattle.mps_tokens.specs.Numbers.{number_of}
 use Rattle.mps_tokens.specs.declared.words.Section.TheVariants as sections
-use Rattle.mps_grammar.specs.Told.{Told, Telling, BoundTelling, names_of, value_or_zero}
+use Rattle.named_things.specs.Named.{names_of}
+use Rattle.mps_grammar.specs.Told.{Told, Telling, BoundTelling, value_or_zero}
 use Rattle.mps_grammar.specs.Faults.{first_of, is_long, header_tests, data_tests}
 use Rattle.mps_grammar.specs.Programs.{value_at, or_other}
 use Rattle.mps_writer_law.specs.Lines.{each, number_line, has_lines}

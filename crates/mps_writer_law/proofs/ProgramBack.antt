@@ -17,7 +17,8 @@ use Rattle.rational.specs.Vectors.{row_at}
 use Rattle.mps_tokens.specs.declared.words.Section.{Section}
 use Rattle.mps_tokens.specs.declared.words.RowKind.{RowKind}
 use Rattle.mps_tokens.specs.declared.words.RowKind.TheVariants as row_kinds
-use Rattle.mps_grammar.specs.Told.{Told, BoundTelling, names_of, program_rows}
+use Rattle.named_things.specs.Named.{names_of}
+use Rattle.mps_grammar.specs.Told.{Told, BoundTelling, program_rows}
 use Rattle.mps_grammar.specs.Programs.{value_at, value_told, or_other, size, sides_of, row_of, bounded, column_of, pair_value, numbers_of, program_of}
 use Rattle.mps_writer_law.specs.Lines.{each}
 use Rattle.mps_writer_law.specs.Small.{HasSmallNumbers}

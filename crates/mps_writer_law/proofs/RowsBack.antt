@@ -13,7 +13,8 @@ use Rattle.mps_tokens.specs.declared.words.Section.TheVariants as sections
 use Rattle.mps_tokens.specs.declared.words.RowKind.{RowKind}
 use Rattle.mps_tokens.specs.declared.words.RowKind.TheVariants as row_kinds
 use Rattle.mps_grammar.specs.declared.kinds.FaultKind.TheVariants as kinds
-use Rattle.mps_grammar.specs.Told.{names_of, row_told as row_of_line, binds, program_rows}
+use Rattle.named_things.specs.Named.{names_of}
+use Rattle.mps_grammar.specs.Told.{row_told as row_of_line, binds, program_rows}
 use Rattle.mps_grammar.specs.Faults.{first_of, row_tests, data_tests}
 use Rattle.mps_writer_law.specs.Lines.{each, data_line}
 use Rattle.mps_writer_law.specs.Canonical.{row_name, sides_at, kind_word, row_line, rows_lines}

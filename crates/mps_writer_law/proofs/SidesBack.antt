@@ -15,7 +15,8 @@ use Rattle.program_law.specs.Places.{place_of}
 use Rattle.mps_tokens.specs.Numbers.{number_of}
 use Rattle.mps_tokens.specs.declared.words.Section.TheVariants as sections
 use Rattle.mps_grammar.specs.declared.kinds.FaultKind.TheVariants as kinds
-use Rattle.mps_grammar.specs.Told.{Told, Telling, names_of, is_told, is_used, first_named, with_sides, value_or_zero}
+use Rattle.named_things.specs.Named.{names_of}
+use Rattle.mps_grammar.specs.Told.{Told, Telling, is_told, is_used, first_named, with_sides, value_or_zero}
 use Rattle.mps_grammar.specs.Faults.{first_of, is_long, counts_row, side_tests}
 use Rattle.mps_grammar.specs.Programs.{value_at, value_told, or_other}
 use Rattle.mps_writer_law.specs.Lines.{each, number_line, has_lines}

@@ -91,7 +91,7 @@ fn slices(rt: HostRuntime) -> Result<(), Fail> {
     Ok(())
 }
 
-// (p, q, p + q, p * q), on both sides of what fits 63, 64 and 127 bits.
+/// (p, q, p + q, p * q), on both sides of what fits 63, 64 and 127 bits.
 const SUMS: [((i128, i128), (i128, i128), (i128, i128), (i128, i128)); 9] = [
     (
         (9223372036854775807, 2),

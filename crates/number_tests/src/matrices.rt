@@ -15,7 +15,7 @@ fn vector(alloc: Global, entries: &[i128]) -> Result<Vector<Frac>, Fail> {
     Ok(row)
 }
 
-// The matrix of rows of whole numbers, one after another.
+/// The matrix of rows of whole numbers, one after another.
 fn matrix(
     alloc: Global,
     rows: usize,
@@ -70,7 +70,7 @@ fn push_rows(text: &mut String, alloc: Global, m: &Matrix<Frac>) -> Result<(), F
     Ok(())
 }
 
-// The answer of `solve` as text.
+/// The answer of `solve` as text.
 fn solved(alloc: Global, m: &Matrix<Frac>, r: &Vector<Frac>) -> Result<String, Fail> {
     let mut text = String::new(alloc);
     if m.rows() != r.len() {
@@ -92,7 +92,7 @@ fn solved(alloc: Global, m: &Matrix<Frac>, r: &Vector<Frac>) -> Result<String, F
     Ok(text)
 }
 
-// The answer of `invert` as text.
+/// The answer of `invert` as text.
 fn inverted(alloc: Global, m: &Matrix<Frac>) -> Result<String, Fail> {
     let mut text = String::new(alloc);
     if m.rows() != m.columns() {

@@ -5,7 +5,7 @@ use frac_core::{Frac, Vector};
 use program_law::{Square, Squares};
 use std::test::Fail;
 
-// The builder with nodes named by letters: a branch, or one of the three leaves.
+/// The builder with nodes named by letters: a branch, or one of the three leaves.
 fn built(rt: HostRuntime, letters: &str) -> Result<TreeBuilder, Fail> {
     let mut builder = Tree::start(rt.alloc());
     for letter in letters.bytes() {
@@ -45,7 +45,7 @@ fn whole_trees(rt: HostRuntime) -> Result<(), Fail> {
     Ok(())
 }
 
-// Whether the nodes are a branch on two leaves, the second a CROSS leaf.
+/// Whether the nodes are a branch on two leaves, the second a CROSS leaf.
 fn is_branch_of_two(builder: TreeBuilder) -> bool {
     match builder.finish() {
         Ok(tree) => {
@@ -58,7 +58,7 @@ fn is_branch_of_two(builder: TreeBuilder) -> bool {
     }
 }
 
-// Whether it is a builder that wants one node more.
+/// Whether it is a builder that wants one node more.
 fn is_mended(finished: Result<Tree, TreeBuilder>) -> bool {
     match finished {
         Ok(_) => false,

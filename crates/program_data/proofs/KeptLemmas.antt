@@ -1,10 +1,10 @@
 -- Each change of what is kept is the change of what is seen, and leaves room.
-use Rattle.std.specs.Prelude.{◌≡◌, ◌≢◌, ℕ, ◌+◌, ◌-◌, ◌<◌, ◌≤◌, List, [], ◌∷◌, ◌++◌, length, map, take, All, None}
+use Rattle.std.specs.Prelude.{◌≡◌, ◌≢◌, ℕ, ◌+◌, ◌<◌, ◌≤◌, List, [], ◌∷◌, ◌++◌, length, map, take, All, None}
 use Rattle.std.proofs.Common.{refl, arith, set, sym, ap, subst, ◌∙◌}
 use Rattle.std.proofs.lemmas.List.{length_push, length-set, map_push, length-map, take-replicate}
 use Rattle.std.proofs.lemmas.List.Elements.{All-push}
 use Rattle.std.proofs.lemmas.List.Quantifiers.{all_pairs_push}
-use Rattle.std.proofs.Math.Seq.{take-set-lt, take-append_seam}
+use Rattle.std.proofs.Math.Seq.{take-set-lt}
 use Rattle.rational.specs.Rational.{ℚ, zero_ℚ}
 use Rattle.program_law.specs.declared.Row.{Row}
 use Rattle.program_law.specs.declared.Column.{Column}
@@ -158,16 +158,18 @@ row_seen : (p : Program) (name : List ℕ) (s : Row) → IsRoomy p → trimmed (
 row_seen p name s r =
     ap (λ (entries : List (List ℚ)). numbers_as (row_put (trimmed p) name s) entries (trimmed p).costs (trimmed p).pairs) (zeros_taken (length p.columns) p.entries r.good.few_columns)
 
-pub row_added : (p seen : Program) (name : List ℕ) (s : Row) → trimmed p ≡ seen → IsRoomy p → IsName name → name ≢ marker → IsRow s → length p.rows < most_rows → place_of (row_names p) name ≡ None → (trimmed (row_put p name s) ≡ with_row seen name s) × IsRoomy (row_put p name s)
-row_added p seen name s is r is_name unmarked good room new = (
-  row_seen p name s r ∙ ap (λ (q : Program). with_row q name s) is,
-  record {
-    good = subst IsProgram (sym (row_seen p name s r)) (row_good (trimmed p) name s is_name unmarked good room new r.good);
-    entries = All-push (IsPadded (length p.columns)) p.entries (zeros most_columns) r.entries (padded_zeros (length p.columns));
-    costs = r.costs;
-    pairs = r.pairs;
-  },
-)
+pub row_added : (p seen : Program) (name : List ℕ) (s : Row) → trimmed p ≡ seen → IsRoomy p → IsName name → name ≢ marker → IsRow s → length seen.rows < most_rows → place_of (row_names seen) name ≡ None → (trimmed (row_put p name s) ≡ with_row seen name s) × IsRoomy (row_put p name s)
+row_added p seen name s is r is_name unmarked good =
+    subst (λ (q : Program). length q.rows < most_rows → place_of (row_names q) name ≡ None → (trimmed (row_put p name s) ≡ with_row q name s) × IsRoomy (row_put p name s)) is
+    (λ room new. (
+      row_seen p name s r,
+      record {
+        good = subst IsProgram (sym (row_seen p name s r)) (row_good (trimmed p) name s is_name unmarked good room new r.good);
+        entries = All-push (IsPadded (length p.columns)) p.entries (zeros most_columns) r.entries (padded_zeros (length p.columns));
+        costs = r.costs;
+        pairs = r.pairs;
+      },
+    ))
 
 column_seen : (p : Program) (name : List ℕ) (c : Column) → IsRoomy p → length p.columns < most_columns → trimmed (column_put p name c) ≡ with_column (trimmed p) name c
 column_seen p name c r room =
@@ -179,22 +181,20 @@ column_seen p name c r room =
     ∙ ap (λ (pairs : List (List ℚ)). numbers_as q (map widened (map (take n) p.entries)) (widened (take n p.costs)) pairs)
     (zeros_taken (n + 1) p.pairs (omega (arith, room)) ∙ ap (λ (rows : List (List ℚ)). rows ++ zeros (n + 1) ∷ []) (rows_more n p.pairs r.pairs room))
 
-pub column_added : (p seen : Program) (name : List ℕ) (c : Column) → trimmed p ≡ seen → IsRoomy p → IsName name → length p.columns < most_columns → place_of (column_names p) name ≡ None → (trimmed (column_put p name c) ≡ with_column seen name c) × IsRoomy (column_put p name c)
-column_added p seen name c is r is_name room new =
+pub column_added : (p seen : Program) (name : List ℕ) (c : Column) → trimmed p ≡ seen → IsRoomy p → IsName name → length seen.columns < most_columns → place_of (column_names seen) name ≡ None → (trimmed (column_put p name c) ≡ with_column seen name c) × IsRoomy (column_put p name c)
+column_added p seen name c is r is_name =
     let n = length p.columns in
-    let more : n + 1 ≡ length (p.columns ++ (name, c) ∷ []) = sym (length_push p.columns (name, c)) in (
-      column_seen p name c r room ∙ ap (λ (q : Program). with_column q name c) is,
+    let more : n + 1 ≡ length (p.columns ++ (name, c) ∷ []) = sym (length_push p.columns (name, c)) in
+    subst (λ (q : Program). length q.columns < most_columns → place_of (column_names q) name ≡ None → (trimmed (column_put p name c) ≡ with_column q name c) × IsRoomy (column_put p name c)) is
+    (λ room new. (
+      column_seen p name c r room,
       record {
         good = subst IsProgram (sym (column_seen p name c r room)) (column_good (trimmed p) name c is_name room new r.good);
         entries = subst (λ (m : ℕ). All (IsPadded m) p.entries) more (padded_mores n p.entries r.entries);
         costs = subst (λ (m : ℕ). IsPadded m p.costs) more (padded_more n p.costs r.costs);
         pairs = subst (λ (m : ℕ). All (IsPadded m) (p.pairs ++ zeros most_columns ∷ [])) more (All-push (IsPadded (n + 1)) p.pairs (zeros most_columns) (padded_mores n p.pairs r.pairs) (padded_zeros (n + 1)));
       },
-    )
-
--- a row that was put and taken away again
-pub popped : (rows : List (List ℚ)) (row : List ℚ) → take (length (rows ++ row ∷ []) - 1) (rows ++ row ∷ []) ≡ rows
-popped rows row = let e : length (rows ++ row ∷ []) - 1 ≡ length rows = omega (arith, length_push rows row) in rw e (take-append_seam rows (row ∷ []))
+    ))
 
 -- ---- the start
 

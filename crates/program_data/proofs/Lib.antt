@@ -1,5 +1,4 @@
 mod Found
-pub mod Outcomes
 mod Rows
 mod Padded
 mod Changed

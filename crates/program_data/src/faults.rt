@@ -1,5 +1,9 @@
 // Why a name or an addition is refused.
 
+ghost use Rattle.std.specs.Prelude.{◌≡◌};
+ghost use Rattle.program_data.specs.declared.faults.AddFault.TheVariants as add;
+
+use frac_core::Memory;
 use thiserror::Error;
 
 /// Why bytes make no name.
@@ -23,4 +27,12 @@ pub enum AddFault {
     Twice,
     #[error("memory ran out")]
     Memory,
+}
+
+impl From<Memory> for AddFault {
+    ghost from_gives = { λ _ e. e ≡ add.Memory };
+
+    fn from(_error: Memory) -> AddFault {
+        AddFault::Memory
+    }
 }

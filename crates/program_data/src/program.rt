@@ -1,8 +1,8 @@
 // A program, its changes and its readers.
 
-ghost use Rattle.std.specs.Prelude.{◌≡◌, ◌≢◌, ◌<◌, ◌≤◌, ◌^◌, length, slice_get, Some, IfOk, IfSome, OnOk, OnErr};
+ghost use Rattle.std.specs.Prelude.{◌≡◌, ◌≢◌, ◌<◌, ◌≤◌, ◌^◌, ◌++◌, ◌∷◌, [], None, length, slice_get, Some, IfOk, IfSome, OnOk, OnErr};
 ghost use Rattle.program_law.specs.Program.{IsProgram, IsRow, row_names, column_names, sides, bounds, marks, marker, is_marked, most_rows, most_columns};
-ghost use Rattle.program_law.specs.Changes.{empty_program, with_row, with_column, with_entry, with_cost, with_constant, with_pair, with_sides, with_bounds};
+ghost use Rattle.program_law.specs.Changes.{zeros, empty_program, with_row, with_column, with_entry, with_cost, with_constant, with_pair, with_sides, with_bounds};
 ghost use Rattle.program_law.specs.Places.{place_of};
 ghost use Rattle.rational.specs.Sums.{entry};
 ghost use Rattle.rational.specs.Vectors.{row_at};
@@ -24,11 +24,17 @@ use std::marker::Model;
 #[derive(Drop)]
 pub struct Program {
     objective: Name,
+    /// The sides of each row, by its name.
     rows: Named<Row>,
+    /// The bounds of each column and whether it is marked, by its name.
     columns: Named<Column>,
+    /// A, rows by columns.
     entries: Grid,
+    /// c, a number for each column.
     costs: Vec<Frac>,
+    /// c0.
     constant: Frac,
+    /// Q, columns by columns, symmetric.
     pairs: Grid,
 }
 
@@ -62,6 +68,34 @@ impl Program {
         })
     }
 
+    /// The place that a row with this name would have.
+    fn row_place(&self, name: &Name) -> Result<u32, AddFault>
+        ensures { IsPlaced most_rows (length self.now.rows) (row_names self.now) name.now result }
+    {
+        let place = self.rows.len();
+        if place >= MOST_ROWS {
+            return Err(AddFault::Many);
+        }
+        if name.bytes() == self.objective.bytes() || self.rows.find(name.bytes()).is_some() {
+            return Err(AddFault::Twice);
+        }
+        Ok(place as u32)
+    }
+
+    /// The place that a column with this name would have.
+    fn column_place(&self, name: &Name) -> Result<u32, AddFault>
+        ensures { IsPlaced most_columns (length self.now.columns) (column_names self.now) name.now result }
+    {
+        let place = self.columns.len();
+        if place >= MOST_COLUMNS {
+            return Err(AddFault::Many);
+        }
+        if self.columns.find(name.bytes()).is_some() {
+            return Err(AddFault::Twice);
+        }
+        Ok(place as u32)
+    }
+
     /// Puts a row last, with entries 0, and answers its place.
     ///
     /// # Errors
@@ -74,21 +108,9 @@ impl Program {
         ensures ok { OnOk result (self.new ≡ with_row self.old name row) }
         ensures err { OnErr result (self.new ≡ self.old) }
     {
-        let place = self.rows.len();
-        if place >= MOST_ROWS {
-            return Err(AddFault::Many);
-        }
-        if name.bytes() == self.objective.bytes() || self.rows.find(name.bytes()).is_some() {
-            return Err(AddFault::Twice);
-        }
-        if self.entries.push_zeros().is_err() {
-            return Err(AddFault::Memory);
-        }
-        if self.rows.push(name.into_bytes(), row).is_err() {
-            self.entries.pop();
-            return Err(AddFault::Memory);
-        }
-        Ok(place as u32)
+        let place = self.row_place(&name)?;
+        put(&mut self.rows, &mut self.entries, name.into_bytes(), row)?;
+        Ok(place)
     }
 
     /// Puts a column last, with entries, cost and pairs 0, and answers its place.
@@ -100,21 +122,14 @@ impl Program {
         ensures ok { OnOk result (self.new ≡ with_column self.old name column) }
         ensures err { OnErr result (self.new ≡ self.old) }
     {
-        let place = self.columns.len();
-        if place >= MOST_COLUMNS {
-            return Err(AddFault::Many);
-        }
-        if self.columns.find(name.bytes()).is_some() {
-            return Err(AddFault::Twice);
-        }
-        if self.pairs.push_zeros().is_err() {
-            return Err(AddFault::Memory);
-        }
-        if self.columns.push(name.into_bytes(), column).is_err() {
-            self.pairs.pop();
-            return Err(AddFault::Memory);
-        }
-        Ok(place as u32)
+        let place = self.column_place(&name)?;
+        put(
+            &mut self.columns,
+            &mut self.pairs,
+            name.into_bytes(),
+            column,
+        )?;
+        Ok(place)
     }
 
     /// Sets the entry of A at a row and a column.
@@ -196,7 +211,7 @@ impl Program {
     pub fn row(&self, i: u32) -> Row
         requires { i < length self.now.rows }
         ensures row { slice_get (sides self.now) i ≡ Some result }
-        ensures entry { result ≡ bounds_at (sides self.now) i }
+        ensures bounds { result ≡ bounds_at (sides self.now) i }
         ensures good { IsRow result }
     {
         self.rows.thing(i as usize)
@@ -327,7 +342,28 @@ impl Program {
     }
 }
 
-// A place as a number of 32 bits.
+/// Puts a thing last, with a row of zeros for it.
+fn put<T: Copy + Drop>(
+    things: &mut Named<T>,
+    numbers: &mut Grid,
+    name: Vec<u8>,
+    thing: T,
+) -> Result<(), Memory>
+    requires { place_of (names_of things.old) name.items ≡ None }
+    ensures things { OnOk result (things.new ≡ things.old ++ (name.items, thing) ∷ []) }
+    ensures numbers { OnOk result (numbers.new ≡ numbers.old ++ zeros most_columns ∷ []) }
+    ensures no_thing { OnErr result (things.new ≡ things.old) }
+    ensures no_numbers { OnErr result (numbers.new ≡ numbers.old) }
+{
+    numbers.push_zeros()?;
+    if things.push(name, thing).is_err() {
+        numbers.pop();
+        return Err(Memory);
+    }
+    Ok(())
+}
+
+/// A place as a number of 32 bits.
 fn narrowed(place: Option<usize>) -> Option<u32>
     requires { IfSome place (λ k. k < 2 ^ 32) }
     ensures { result ≡ place }

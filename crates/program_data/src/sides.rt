@@ -9,7 +9,7 @@ ghost use Rattle.program_law.specs.Program.{IsRow};
 use frac_core::{Frac, Tried};
 use program_law::Row;
 
-// Whether a low side is at most a high one, and their difference fits.
+/// Whether a low side is at most a high one, and their difference fits.
 fn is_span(low: Frac, high: Frac) -> bool
     ensures { IsTrue result ↔ ((low ≤ℚ high) × IsTrue (fits max_part (high -ℚ low))) }
 {

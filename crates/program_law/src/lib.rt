@@ -81,6 +81,13 @@ impl Squares {
         Ok(())
     }
 
+    /// The squares, as a slice.
+    pub fn as_slice(&self) -> &[Square]
+        ensures { result.now ≡ self.now }
+    {
+        self.items.as_slice()
+    }
+
     /// How many squares there are.
     pub fn len(&self) -> usize
         ensures { result ≡ length self.now }

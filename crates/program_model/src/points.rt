@@ -26,7 +26,7 @@ pub enum PointTest {
     Mark(u32),
 }
 
-// Each row's sum is within its sides.
+/// Each row's sum is within its sides.
 fn rows_tested(p: &Program, x: &Vector<Frac>) -> Result<(), Event>
     requires { length x.now ≡ length p.now.columns }
     ensures { result ≡ rows_within 1 (sides p.now) p.now.entries x.now }
@@ -37,7 +37,7 @@ fn rows_tested(p: &Program, x: &Vector<Frac>) -> Result<(), Event>
     Ok(())
 }
 
-// Each column is within its bounds, and whole where it is marked.
+/// Each column is within its bounds, and whole where it is marked.
 fn columns_tested(p: &Program, region: &Region, x: &Vector<Frac>) -> Result<(), Event>
     requires region { length region.now ≡ length p.now.columns }
     requires point { length x.now ≡ length p.now.columns }
@@ -70,7 +70,7 @@ pub fn point_tested(p: &Program, region: &Region, x: &Vector<Frac>) -> Result<()
     columns_tested(p, region, x)
 }
 
-// The answer that tells an event.
+/// The answer that tells an event.
 fn told(event: Event) -> Result<PointTest, Refused>
     requires { IsPointEvent event }
     ensures { event_of result ≡ Err event }
@@ -102,7 +102,7 @@ pub fn check_point(p: &Program, region: &Region, x: &Vector<Frac>) -> Result<Poi
     }
 }
 
-// The sum so far, if it has come this far, with a product.
+/// The sum so far, if it has come this far, with a product.
 fn total_added(total: Result<Frac, Event>, a: Frac, b: Frac) -> Result<Frac, Event>
     ensures { result ≡ total_with total a b }
 {
@@ -146,7 +146,7 @@ fn calculated(p: &Program, x: &Vector<Frac>) -> Result<Frac, Event>
     sum(both, p.constant())
 }
 
-// A calculation of operations alone, as their answer.
+/// A calculation of operations alone, as their answer.
 fn as_tried(calculated: Result<Frac, Event>) -> Tried
     requires { NoTestFails calculated }
     ensures { answered result ≡ calculated }

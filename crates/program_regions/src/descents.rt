@@ -141,7 +141,7 @@ impl<T: Copy + Drop> Descent<T> {
     }
 }
 
-// Puts a cut last, with the bounds of its column. Where there is room it doesn't fail.
+/// Puts a cut last, with the bounds of its column. Where there is room it doesn't fail.
 #[tactic(auto, using(crate::proofs::DescentLemmas::reverse_last))]
 fn keep<T: Copy + Drop>(
     cuts: &mut Vec<Kept<T>>,
@@ -163,7 +163,7 @@ fn keep<T: Copy + Drop>(
     Ok(())
 }
 
-// Takes the last cut away.
+/// Takes the last cut away.
 #[tactic(auto, using(crate::proofs::DescentLemmas::reverse_last))]
 fn pop<T: Copy + Drop>(cuts: &mut Vec<Kept<T>>) -> Option<Kept<T>>
     ensures some { IfSome result (λ kept. reverse cuts.old.items ≡ kept ∷ reverse cuts.new.items) }

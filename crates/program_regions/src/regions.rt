@@ -113,7 +113,7 @@ impl Region {
     }
 }
 
-// The smaller of a high bound and a number.
+/// The smaller of a high bound and a number.
 fn smaller(high: Option<Frac>, k: Frac) -> Option<Frac>
     ensures { result ≡ smaller high k }
 {
@@ -123,7 +123,7 @@ fn smaller(high: Option<Frac>, k: Frac) -> Option<Frac>
     }
 }
 
-// The larger of a low bound and a number.
+/// The larger of a low bound and a number.
 fn larger(low: Option<Frac>, k: Frac) -> Option<Frac>
     ensures { result ≡ larger low k }
 {
@@ -146,7 +146,7 @@ pub fn is_crossed(bounds: &Row) -> bool
     }
 }
 
-// The first place where the low bound is above the high one.
+/// The first place where the low bound is above the high one.
 fn first_crossed(bounds: &[Row]) -> Option<u32>
     requires { length bounds.now ≤ most_columns }
     ensures { result ≡ first_crossed bounds.now }
@@ -159,7 +159,7 @@ fn first_crossed(bounds: &[Row]) -> Option<u32>
     None
 }
 
-// The bounds of a program's columns.
+/// The bounds of a program's columns.
 fn all_bounds(alloc: Global, p: &Program) -> Result<Vec<Row>, Memory>
     ensures bounds { IfOk result (λ rows. rows.items ≡ bounds p.now) }
     ensures few { length (bounds p.now) ≤ most_columns }

@@ -10,7 +10,7 @@ use Rattle.convexity.proofs.Answered.{operations_are}
 use Rattle.exact_matrix.specs.declared.systems.Stop.TheVariants as stops
 use Rattle.branching_law.proofs.BelowRoots.{spent_site_small}
 use Rattle.branching_law.proofs.SearchEnds.{never_used_up}
-use Rattle.branching.specs.Stops.{IsStopOf}
+use Rattle.branching.specs.Stops.{IsDecideStopOf}
 use Rattle.branching.specs.declared.stops.DecideStop.{DecideStop}
 use Rattle.branching.specs.declared.stops.DecideStop.TheVariants.{Memory, Bases, Boxes, Past}
 use Rattle.qp_words.specs.declared.order.Order.{Order}
@@ -24,7 +24,7 @@ clash : (b n : ℕ) → b + 2 ≤ n → n ≤ b → ⊥
 clash b n h k = omega (arith, h, k)
 
 module _ (p : Program) (bases boxes : ℕ) (is : IsProgram p) (room : HasRoom p bases) (many_bases : AreManyBases p bases) (many_boxes : AreManyBoxes p boxes) where
-  nothing_stops : (stop : DecideStop) (s : Said) → IsStopOf p bases boxes stop → IsStopDue p bases stop s → ⊥
+  nothing_stops : (stop : DecideStop) (s : Said) → IsDecideStopOf p bases boxes stop → IsStopDue p bases stop s → ⊥
   nothing_stops Memory s h due = due
   nothing_stops (Bases path site) s h due =
       clash bases _ (spent_site_small p bases path h.place is (record { reached = h.spent.reached; spent = h.spent.first.spent })) (many_bases path h.spent.reached.comes h.spent.reached.uncrossed)

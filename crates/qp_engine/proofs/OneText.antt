@@ -9,7 +9,7 @@ use Rattle.cert_check_law.specs.declared.Checked.TheVariants.{Accepted, Rejected
 use Rattle.mps_grammar.specs.Verdict.{Fault}
 use Rattle.mps_grammar.specs.Reading.{Spot, read_of, rest_of}
 use Rattle.mps_reader.proofs.WholePrograms.{read_program}
-use Rattle.branching.specs.Stops.{IsStopOf, IsOfBudget}
+use Rattle.branching.specs.Stops.{IsDecideStopOf, IsOfBudget}
 use Rattle.branching.specs.declared.stops.DecideStop.{DecideStop}
 use Rattle.branching.specs.declared.stops.DecideStop.TheVariants as halted
 use Rattle.branching.proofs.OneEnding.{one_certificate, one_stop, not_both}
@@ -38,10 +38,10 @@ module _ (p : Program) (is : IsProgram p) (bases boxes : ℕ) where
   record IsBudgetDue (s : Said) : Type 0 where
     stop : DecideStop
     of_budget : IsOfBudget stop
-    stops : IsStopOf p bases boxes stop
+    stops : IsDecideStopOf p bases boxes stop
     due : IsStopDue p bases stop s
 
-  withheld_for : (stop : DecideStop) (s : Said) → IsStopOf p bases boxes stop → IsStopDue p bases stop s → IsBudgetDue s ⊎ IsPastDue p bases boxes s
+  withheld_for : (stop : DecideStop) (s : Said) → IsDecideStopOf p bases boxes stop → IsStopDue p bases stop s → IsBudgetDue s ⊎ IsPastDue p bases boxes s
   withheld_for halted.Memory s h due = absurd due
   withheld_for (halted.Bases path site) s h due = inl (record { stop = halted.Bases path site; of_budget = tt; stops = h; due = due })
   withheld_for (halted.Boxes n) s h due = inl (record { stop = halted.Boxes n; of_budget = tt; stops = h; due = due })

@@ -13,7 +13,7 @@ use Rattle.certificate_law.proofs.Verdicts.{good_is_true}
 use Rattle.cert_check_law.specs.Check.{checked, answer}
 use Rattle.cert_check_law.specs.declared.Checked.TheVariants.{Accepted, Past}
 use Rattle.branching.specs.Decided.{IsFound}
-use Rattle.branching.specs.Stops.{IsStopOf}
+use Rattle.branching.specs.Stops.{IsDecideStopOf}
 use Rattle.branching.specs.declared.stops.DecideStop.{DecideStop}
 use Rattle.sample_make.specs.Samples.{sample_of, IsOptimalVerdict}
 use Rattle.qp_words.specs.declared.order.Order.{Order}
@@ -66,13 +66,13 @@ sample_is_due order p bases boxes c s e same_bases same_boxes is found due = (
   }),
 )
 
-pub sample_stop_is_due : (order : Order) (p : Program) (bases boxes : ℕ) (stop : DecideStop) (s : Said) → p ≡ sample order → bases ≡ order.bases → boxes ≡ order.boxes → IsProgram p → IsStopOf p bases boxes stop
+pub sample_stop_is_due : (order : Order) (p : Program) (bases boxes : ℕ) (stop : DecideStop) (s : Said) → p ≡ sample order → bases ≡ order.bases → boxes ≡ order.boxes → IsProgram p → IsDecideStopOf p bases boxes stop
     → IsStopDue p bases stop s → IsSampleDue order s
 sample_stop_is_due order p bases boxes stop s e same_bases same_boxes is stops due = (
   subst IsProgram e is,
   inr (record {
     stop = stop;
-    stops = subst (λ p. IsStopOf p order.bases order.boxes stop) e (subst (λ (n : ℕ). IsStopOf p order.bases n stop) same_boxes (subst (λ (n : ℕ). IsStopOf p n boxes stop) same_bases stops));
+    stops = subst (λ p. IsDecideStopOf p order.bases order.boxes stop) e (subst (λ (n : ℕ). IsDecideStopOf p order.bases n stop) same_boxes (subst (λ (n : ℕ). IsDecideStopOf p n boxes stop) same_bases stops));
     due = subst (λ p. IsStopDue p order.bases stop s) e (subst (λ (n : ℕ). IsStopDue p n stop s) same_bases due);
   }),
 )

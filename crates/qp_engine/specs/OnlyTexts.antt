@@ -5,7 +5,7 @@ use Rattle.program_law.specs.Program.{Program}
 use Rattle.mps_grammar.specs.Reading.{Spot, read_of}
 use Rattle.quad_solve.specs.declared.sites.Site.{Site}
 use Rattle.branching_law.specs.declared.Turn.{Turn}
-use Rattle.branching.specs.Stops.{IsStopOf}
+use Rattle.branching.specs.Stops.{IsDecideStopOf}
 use Rattle.branching.specs.declared.stops.DecideStop.TheVariants.{Past}
 use Rattle.qp_answers.specs.Said.{Said}
 use Rattle.qp_answers.specs.Outcomes.{IsStopDue}
@@ -16,7 +16,7 @@ pub record IsPastDue (p : Program) (bases boxes : ℕ) (s : Said) : Type 0 where
   pub path : List Turn
   pub site : Site
   pub refused : Refused
-  pub stops : IsStopOf p bases boxes (Past path site refused)
+  pub stops : IsDecideStopOf p bases boxes (Past path site refused)
   pub due : IsStopDue p bases (Past path site refused) s
 
 -- the same of the program of an input, within the budgets of an order

@@ -3,7 +3,7 @@ use Rattle.std.specs.Prelude.{◌⊎◌, ℕ}
 use Rattle.program_law.specs.Program.{Program}
 use Rattle.certificate_law.specs.declared.Certificate.{Certificate}
 use Rattle.branching.specs.Decided.{IsFound}
-use Rattle.branching.specs.Stops.{IsStopOf}
+use Rattle.branching.specs.Stops.{IsDecideStopOf}
 use Rattle.branching.specs.declared.stops.DecideStop.{DecideStop}
 use Rattle.qp_answers.specs.Said.{Said}
 use Rattle.qp_answers.specs.Outcomes.{IsFoundDue, IsReadable, IsStopDue}
@@ -18,7 +18,7 @@ pub record IsSolved (p : Program) (bases boxes : ℕ) (s : Said) : Type 0 where
 -- none is found, and the text of a stop is due
 pub record IsWithheld (p : Program) (bases boxes : ℕ) (s : Said) : Type 0 where
   pub stop : DecideStop
-  pub stops : IsStopOf p bases boxes stop
+  pub stops : IsDecideStopOf p bases boxes stop
   pub due : IsStopDue p bases stop s
 
 abbrev pub IsSolveDue : Program → ℕ → ℕ → Said → Type 0

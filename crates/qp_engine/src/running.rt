@@ -2,6 +2,7 @@
 
 ghost use Rattle.std.specs.Prelude.{◌≡◌, ◌≢◌, ◌<◌, ◌≤◌, ◌^◌, [], length, None, Some, IfSome, IfOk, OnOk, IsErrOf, string_bytes};
 ghost use Rattle.std.specs.Io.KnownBytes.{IsAtEnd, Keeps};
+ghost use Rattle.branching_law.specs.Search.{most_boxes};
 ghost use Rattle.qp_io.specs.Causes.{Rose};
 ghost use Rattle.qp_answers.specs.Answers.{usage_due};
 ghost use Rattle.qp_engine.specs.Due.{IsDue};
@@ -40,7 +41,7 @@ impl From<Memory> for NoAnswer {
 /// The answer to all that the source gives, of an order that reads it.
 fn answer_to<S: Source>(alloc: Global, order: Order, source: &mut S) -> Result<Answer, NoAnswer>
     requires reading { IsReading order }
-    requires boxes { order.boxes ≤ 20000 }
+    requires boxes { order.boxes ≤ most_boxes }
     ensures due { IfOk result (λ a. IfSome (S.left source.old) (λ input. IsDue order input a)) }
     ensures settled { IfOk result (λ a. a.status ≡ Status.Done →
         IfSome (S.left source.old) (λ input. Settles order.task input a.text)) }

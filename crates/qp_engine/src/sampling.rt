@@ -65,6 +65,22 @@ fn shown(
     }
 }
 
+/// The answer to a sample, by its program.
+fn decided(alloc: Global, order: Order, program: &Program) -> Result<Answer, Memory>
+    requires range { IsInRange order }
+    requires sample { program.now ≡ sample order }
+    ensures due { IfOk result (IsSampleDue order) }
+    ensures holds { IfOk result (λ a. a.status ≡ Status.Done → HasSampled order a.text) }
+    ensures verdict { IfOk result (λ a. IsVerdict a.status) }
+{
+    let _columns = program.columns();
+    let limits = limits_of(order);
+    match decide(alloc, program, limits) {
+        Ok(certificate) => shown(alloc, order, program, &certificate),
+        Err(stop) => stopped(alloc, program, limits.bases, &stop),
+    }
+}
+
 /// The answer to the order of a sample.
 pub(crate) fn sampled(alloc: Global, order: Order) -> Result<Answer, Memory>
     requires { IsInRange order }
@@ -73,10 +89,5 @@ pub(crate) fn sampled(alloc: Global, order: Order) -> Result<Answer, Memory>
     ensures verdict { IfOk result (λ a. IsVerdict a.status) }
 {
     let program = sample_make::sample(alloc, order.kind, order.number)?;
-    let _columns = program.columns();
-    let limits = limits_of(order);
-    match decide(alloc, &program, limits) {
-        Ok(certificate) => shown(alloc, order, &program, &certificate),
-        Err(stop) => stopped(alloc, &program, limits.bases, &stop),
-    }
+    decided(alloc, order, &program)
 }

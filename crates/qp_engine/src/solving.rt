@@ -3,6 +3,7 @@
 ghost use Rattle.std.specs.Prelude.{◌≡◌, ◌≤◌, IfOk};
 ghost use Rattle.certificate_law.specs.Good.{IsGood};
 ghost use Rattle.cert_grammar.specs.Writable.{IsWritable};
+ghost use Rattle.branching_law.specs.Search.{most_boxes};
 ghost use Rattle.cert_check_law.specs.Check.{answer, checked};
 ghost use Rattle.qp_answers.specs.Outcomes.{told_by, IsFoundDue};
 ghost use Rattle.qp_engine.specs.Solving.{IsSolveDue};
@@ -74,7 +75,7 @@ fn found(alloc: Global, program: &Program, certificate: &Certificate) -> Result<
 
 /// The answer to a program that is to be decided within budgets.
 pub(crate) fn solved(alloc: Global, program: &Program, limits: Limits) -> Result<Answer, Memory>
-    requires { limits.boxes ≤ 20000 }
+    requires { limits.boxes ≤ most_boxes }
     ensures due { IfOk result (IsSolveDue program.now limits.bases limits.boxes) }
     ensures holds { IfOk result (λ a. a.status ≡ Status.Done → HasSolved program.now a.text) }
     ensures verdict { IfOk result (λ a. IsVerdict a.status) }

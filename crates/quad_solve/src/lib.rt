@@ -2,10 +2,9 @@
 #![tactic(auto)]
 
 mod feasibility;
-mod price;
-mod problems;
 mod relaxation;
 mod sites;
+mod solutions;
 mod walk;
 
 pub use feasibility::{AnyPoint, any_point};

@@ -20,7 +20,7 @@ use Rattle.face_descent_law.proofs.Ends.{stationary_has_no_step}
 use Rattle.quad_solve_law.specs.Problems.{feasible_problem, ray_problem, price_problem, price_multipliers}
 use Rattle.quad_solve_law.specs.Walk.{IsSolvedWithin, IsRefutedWithin, IsSolved, IsRefuted, IsDecidedWithin, Way, Start, Shrink, Price, Visit, IsPriced, GoesOn, IsWalkFrom, IsOnWalk, HasPricesWithin, IsWalkWithin, IsSpentWalk, one_if_price, price_steps}
 use Rattle.quad_solve_law.specs.Answer.{Answer, Empty, Ray, Best, IsFound, IsAnswer, IsBest}
-use Rattle.quad_solve_law.specs.Sites.{Site, AtForm, AtFeasible, AtRay, AtFace, AtPrice, HasNoRay, IsFirstSpent}
+use Rattle.quad_solve_law.specs.Sites.{RegionSite, AtForm, AtFeasible, AtRay, AtFace, AtPrice, HasNoRay, IsFirstSpent}
 use Rattle.quad_solve_law.proofs.Decided.{not_both_ends, refuted_is_farkas}
 use Rattle.quad_solve_law.proofs.Descents.{prices_form_a_problem}
 use Rattle.quad_solve_law.proofs.Directions.{feasible_is_a_problem, rays_form_a_problem, refuted_has_none}
@@ -164,7 +164,7 @@ module _ (p : Program) (region : Region) (is : IsProgram p) (wide : length regio
   prices : (z : List ℚ) → linear.IsProblem (price_problem f z)
   prices z = prices_form_a_problem n f z fits
 
-  abbrev First : Site → Type 0
+  abbrev First : RegionSite → Type 0
   First site = IsFirstSpent p region budget site
 
   faces : (z w : List ℚ) → First (AtFace z) → First (AtFace w) → z ≡ w
@@ -203,7 +203,7 @@ module _ (p : Program) (region : Region) (is : IsProgram p) (wide : length regio
   no_rays : (b : Tableau) → First (AtRay b) → IsDecidedWithin (ray_problem f) budget → ⊥
   no_rays b h d = spent_is_undecided (ray_problem f) rays budget b h.spent d
 
-  pub one_site : (s t : Site) → First s → First t → s ≡ t
+  pub one_site : (s t : RegionSite) → First s → First t → s ≡ t
   one_site AtForm t h k = absurd h.spent
   one_site (AtFeasible b) AtForm h k = absurd k.spent
   one_site (AtFeasible b) (AtFeasible c) h k = ap AtFeasible (one_spent (feasible_problem f) feasible budget b c h.spent k.spent)
@@ -275,7 +275,7 @@ module _ (p : Program) (region : Region) (is : IsProgram p) (wide : length regio
   ray_has_one : (w x d : List ℚ) → IsRefutedWithin (ray_problem f) budget w → IsAnswer p region budget (Ray x d) → ⊥
   ray_has_one w x d s k = not_both_ends (ray_problem f) rays budget budget k.ray w k.solved s
 
-  pub no_answer_beside : (site : Site) (answer : Answer) → First site → IsAnswer p region budget answer → ⊥
+  pub no_answer_beside : (site : RegionSite) (answer : Answer) → First site → IsAnswer p region budget answer → ⊥
   no_answer_beside AtForm a h k = h.spent
   no_answer_beside (AtFeasible b) a h k = no_feasible b h (begun a k)
   no_answer_beside (AtRay b) (Empty y) h k = empty_has_none h.before.0 y h.before.1 k
@@ -294,7 +294,7 @@ module _ (p : Program) (region : Region) (is : IsProgram p) (wide : length regio
   Told = (answer : Answer) × IsAnswer p region budget answer
 
   abbrev Stopped : Type 0
-  Stopped = (site : Site) × First site
+  Stopped = (site : RegionSite) × First site
 
   pub feasible_told : IsDecidedWithin (feasible_problem f) budget ⊎ ((b : Tableau) × First (AtFeasible b))
   feasible_told =

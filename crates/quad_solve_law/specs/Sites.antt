@@ -19,12 +19,12 @@ use Rattle.quad_solve_law.specs.Walk.{IsSolvedWithin, IsDecidedWithin, IsOnWalk,
 use Rattle.quad_solve_law.specs.Operations.{back_ops, ray_back_ops, point_face_ops, price_ops, multiplier_ops}
 
 -- the form; a basis of the feasible chain; one of the ray chain; a point of a walk; and a basis of the price chain at such a point
-pub data Site : Type 0 where
-  AtForm : Site
-  AtFeasible : Tableau → Site
-  AtRay : Tableau → Site
-  AtFace : List ℚ → Site
-  AtPrice : List ℚ → Tableau → Site
+pub data RegionSite : Type 0 where
+  AtForm : RegionSite
+  AtFeasible : Tableau → RegionSite
+  AtRay : Tableau → RegionSite
+  AtFace : List ℚ → RegionSite
+  AtPrice : List ℚ → Tableau → RegionSite
 
 -- a chain of the problem ends at b
 abbrev pub IsOnChain : Problem → Tableau → Type 0
@@ -34,7 +34,7 @@ abbrev pub HasNoRay : Form → Type 0
 HasNoRay f = (r : List ℚ) → ¬ (IsFormRay f r)
 
 -- the ray chain is reached where the region has a point, and a walk where its form has no ray
-abbrev pub IsReached : Program → Region → Site → Type 0
+abbrev pub IsReached : Program → Region → RegionSite → Type 0
 IsReached p region AtForm = Unit {0}
 IsReached p region (AtFeasible b) = IsOnChain (feasible_problem (form_of p region)) b
 IsReached p region (AtRay b) = ((x : List ℚ) × IsRelaxedPoint p region x) × IsOnChain (ray_problem (form_of p region)) b
@@ -45,7 +45,7 @@ IsReached p region (AtPrice z b) =
 
 -- To a basis belongs its calculation, and to one that ends its chain also what is done with its solution or its Farkas vector: the way
 -- back, the price step, or the multipliers. To a point of a walk belong its face calculation, the way back, and the value there.
-abbrev pub IsOperationAt : Program → Region → Site → Refused → Type 0
+abbrev pub IsOperationAt : Program → Region → RegionSite → Refused → Type 0
 IsOperationAt p region AtForm r = Contains (form_ops p region) r
 IsOperationAt p region (AtFeasible b) r =
     let problem = feasible_problem (form_of p region) in
@@ -61,7 +61,7 @@ IsOperationAt p region (AtPrice z b) r =
 
 -- the budget is used up: a chain with so many strict steps ends at a basis and would go on; or a walk with so many price steps ends at a
 -- stationary point whose price problem isn't refuted
-abbrev pub IsSpentAt : Program → Region → ℕ → Site → Type 0
+abbrev pub IsSpentAt : Program → Region → ℕ → RegionSite → Type 0
 IsSpentAt p region budget AtForm = ⊥
 IsSpentAt p region budget (AtFeasible b) = IsSpent (feasible_problem (form_of p region)) budget b
 IsSpentAt p region budget (AtRay b) = IsSpent (ray_problem (form_of p region)) budget b
@@ -70,7 +70,7 @@ IsSpentAt p region budget (AtPrice z b) = IsSpent (price_problem (form_of p regi
 
 -- What comes before a site ends within the budget. The feasible chain comes first, then the ray chain, and then the walk, with the price
 -- chain at each stationary point before the price step that leaves it.
-abbrev pub IsWithinBefore : Program → Region → ℕ → Site → Type 0
+abbrev pub IsWithinBefore : Program → Region → ℕ → RegionSite → Type 0
 IsWithinBefore p region budget AtForm = Unit {0}
 IsWithinBefore p region budget (AtFeasible b) = Unit {0}
 IsWithinBefore p region budget (AtRay b) = (x : List ℚ) × IsSolvedWithin (feasible_problem (form_of p region)) budget x
@@ -79,7 +79,7 @@ IsWithinBefore p region budget (AtFace z) =
 IsWithinBefore p region budget (AtPrice z b) = IsWalkWithin (width p region) (form_of p region) budget z
 
 -- the first site at which the budget is used up: what comes before it ends within the budget
-pub record IsFirstSpent (p : Program) (region : Region) (budget : ℕ) (site : Site) : Type 0 where
+pub record IsFirstSpent (p : Program) (region : Region) (budget : ℕ) (site : RegionSite) : Type 0 where
   pub reached : IsReached p region site
   pub before : IsWithinBefore p region budget site
   pub spent : IsSpentAt p region budget site

@@ -14,12 +14,12 @@ ghost use Rattle.cert_check_law.specs.Value.{value_of};
 ghost use Rattle.equational_law.specs.Form.{width, form_of};
 ghost use Rattle.quad_solve_law.specs.Answer.{Answer, IsAnswer};
 ghost use Rattle.quad_solve_law.specs.Operations.{value_ops};
-ghost use Rattle.quad_solve_law.specs.Sites.{IsFirstSpent, IsReached, IsSpentAt, Site};
+ghost use Rattle.quad_solve_law.specs.Sites.{IsFirstSpent, IsReached, IsSpentAt, RegionSite};
 
 /// A budget can be used up at a reached site only where it is at least two less than 2^(2n + m + 1), for the n columns and m
 /// equations of the region's form.
 pub fn large_budgets_are_enough()
-    ensures { (p : Program) (region : Region) (budget : ℕ) (site : Site) → IsProgram p → length region ≡ length p.columns →
+    ensures { (p : Program) (region : Region) (budget : ℕ) (site : RegionSite) → IsProgram p → length region ≡ length p.columns →
         IsSemidefinite (length p.columns) p.pairs → IsReached p region site → IsSpentAt p region budget site →
         budget + 2 ≤ 2 ^ (width p region + width p region + length (form_of p region).matrix + 1) }
 {}
@@ -27,14 +27,14 @@ pub fn large_budgets_are_enough()
 /// Where Q is semidefinite, a region has an answer within a budget, or a first site at which the budget is used up; never both, and
 /// only one such site.
 pub fn budgets_are_used_up_at_one_site_first()
-    ensures one { (p : Program) (region : Region) (budget : ℕ) (one other : Site) → IsProgram p → length region ≡ length p.columns →
+    ensures one { (p : Program) (region : Region) (budget : ℕ) (one other : RegionSite) → IsProgram p → length region ≡ length p.columns →
         IsSemidefinite (length p.columns) p.pairs → IsFirstSpent p region budget one → IsFirstSpent p region budget other → one ≡ other }
-    ensures not_both { (p : Program) (region : Region) (budget : ℕ) (site : Site) (answer : Answer) → IsProgram p →
+    ensures not_both { (p : Program) (region : Region) (budget : ℕ) (site : RegionSite) (answer : Answer) → IsProgram p →
         length region ≡ length p.columns → IsSemidefinite (length p.columns) p.pairs → IsFirstSpent p region budget site →
         IsAnswer p region budget answer → ⊥ }
     ensures some { (p : Program) (region : Region) (budget : ℕ) → IsProgram p → length region ≡ length p.columns →
         IsSemidefinite (length p.columns) p.pairs →
-        ((answer : Answer) × IsAnswer p region budget answer) ⊎ ((site : Site) × IsFirstSpent p region budget site) }
+        ((answer : Answer) × IsAnswer p region budget answer) ⊎ ((site : RegionSite) × IsFirstSpent p region budget site) }
 {}
 
 /// The calculation of a point's value ends with the first of its operations that is past, where there is one; nothing else

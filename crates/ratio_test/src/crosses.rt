@@ -8,7 +8,7 @@ use crate::wide::Wide;
 use frac_core::{Frac, Tried};
 use std::cmp::Ordering;
 
-// The numerator of a * t in size, times the denominator of b * s.
+/// The numerator of a * t in size, times the denominator of b * s.
 fn cross_product(a: Frac, t: Frac, b: Frac, s: Frac) -> Wide
     ensures { result ≡ unsigned_abs a.num * unsigned_abs t.num * b.den * s.den }
 {
@@ -20,7 +20,7 @@ fn cross_product(a: Frac, t: Frac, b: Frac, s: Frac) -> Wide
     )
 }
 
-// The order of a * t and b * s, with t and s above 0, by the signs and then by cross products of all parts.
+/// The order of a * t and b * s, with t and s above 0, by the signs and then by cross products of all parts.
 fn compare_parts(a: Frac, t: Frac, b: Frac, s: Frac) -> Ordering
     requires t { zero_ℚ <ℚ t }
     requires s { zero_ℚ <ℚ s }
@@ -36,7 +36,7 @@ fn compare_parts(a: Frac, t: Frac, b: Frac, s: Frac) -> Ordering
     }
 }
 
-// The order of a * t and b * s, with t and s above 0. It goes to the parts where a product doesn't fit.
+/// The order of a * t and b * s, with t and s above 0. It goes to the parts where a product doesn't fit.
 pub(crate) fn compare_products(a: Frac, t: Frac, b: Frac, s: Frac) -> Ordering
     requires t { zero_ℚ <ℚ t }
     requires s { zero_ℚ <ℚ s }

@@ -23,7 +23,7 @@ pub fn is_positive(x: Frac) -> bool
     0 < x.num()
 }
 
-// The order of two numbers, each divided by a number above 0, by cross products. Two zeros need none.
+/// The order of two numbers, each divided by a number above 0, by cross products. Two zeros need none.
 fn compare_quotients(a: Frac, s: Frac, b: Frac, t: Frac) -> Ordering
     requires s { zero_ℚ <ℚ s }
     requires t { zero_ℚ <ℚ t }
@@ -35,7 +35,7 @@ fn compare_quotients(a: Frac, s: Frac, b: Frac, t: Frac) -> Ordering
     compare_products(a, t, b, s)
 }
 
-// The order of two rows, each divided by a number above 0: the first entries that differ decide.
+/// The order of two rows, each divided by a number above 0: the first entries that differ decide.
 fn compare_rows(row: &[Frac], s: Frac, other: &[Frac], t: Frac) -> Ordering
     requires lengths { length row.now ≡ length other.now }
     requires s { zero_ℚ <ℚ s }
@@ -51,7 +51,7 @@ fn compare_rows(row: &[Frac], s: Frac, other: &[Frac], t: Frac) -> Ordering
     Ordering::Equal
 }
 
-// The order of two rows that begin with a value, each divided by a number above 0.
+/// The order of two rows that begin with a value, each divided by a number above 0.
 fn compare_values(a: Frac, row: &[Frac], s: Frac, b: Frac, other: &[Frac], t: Frac) -> Ordering
     requires lengths { length row.now ≡ length other.now }
     requires s { zero_ℚ <ℚ s }
@@ -65,7 +65,7 @@ fn compare_values(a: Frac, row: &[Frac], s: Frac, b: Frac, other: &[Frac], t: Fr
     compare_rows(row, s, other, t)
 }
 
-// The order of the rows of two places, each its value and then its row of the inverse, divided by its coordinate.
+/// The order of the rows of two places, each its value and then its row of the inverse, divided by its coordinate.
 fn compare_places(
     point: &Vector<Frac>,
     inverse: &Matrix<Frac>,
@@ -93,7 +93,7 @@ fn compare_places(
     )
 }
 
-// The least place so far, after the place k.
+/// The least place so far, after the place k.
 fn least(
     point: &Vector<Frac>,
     inverse: &Matrix<Frac>,

@@ -6,7 +6,7 @@ ghost use Rattle.std.specs.Prelude.{◌≡◌, ◌*◌};
 use std::cmp::Ordering;
 use std::marker::Model;
 
-// A number below 2^512, in words of 128 bits, the highest first.
+/// A number below 2^512, in words of 128 bits, the highest first.
 #[derive(Drop)]
 pub(crate) struct Wide {
     first: u128,
@@ -26,7 +26,7 @@ impl Model for Wide {
 }
 
 impl Wide {
-    // The product of four numbers.
+    /// The product of four numbers.
     pub(crate) fn product(a: u128, b: u128, c: u128, d: u128) -> Wide
         ensures { result ≡ a * b * c * d }
     {

@@ -9,7 +9,7 @@ use crate::numbers::times;
 use crate::row::WholeRow;
 use std::cmp::Ordering;
 
-// The order of x / s and y / u, for s and u above 0.
+/// The order of x / s and y / u, for s and u above 0.
 fn compare_crosses(x: i128, s: i128, y: i128, u: i128) -> Option<Ordering>
     ensures { IfSome result (λ o. o ≡ int_cmp (x *ℤ u) (y *ℤ s)) }
 {
@@ -21,7 +21,7 @@ fn compare_crosses(x: i128, s: i128, y: i128, u: i128) -> Option<Ordering>
     Some(left.cmp(&right))
 }
 
-// Whether a row over s is below another one over u.
+/// Whether a row over s is below another one over u.
 fn is_below(row: &[i128], s: i128, other: &[i128], u: i128) -> Option<bool>
     requires { length row.now ≡ length other.now }
     ensures { IfSome result (λ below. IsTrue below ↔ IsCrossBelow s row.now u other.now) }
@@ -36,7 +36,7 @@ fn is_below(row: &[i128], s: i128, other: &[i128], u: i128) -> Option<bool>
     Some(false)
 }
 
-// The least place so far, after the place k. None where a cross product doesn't fit.
+/// The least place so far, after the place k. None where a cross product doesn't fit.
 fn next_least(
     rows: &[WholeRow],
     products: &[i128],

@@ -6,16 +6,19 @@ ghost use Rattle.row_arithmetic.specs.Products.{IsWithinRow, product, sum_produc
 ghost use Rattle.row_arithmetic.specs.Rows.{number, IsUnitRow};
 ghost use Rattle.row_arithmetic.specs.Multiples.{IsLessOf, IsQuotientOf};
 
-use crate::numbers::{gcd, less, lowest, more, quotient, times};
+use crate::numbers::{gcd, less, lowest, more, times};
 use frac_core::Memory;
 use std::alloc::Global;
 use std::marker::Model;
+use word_arithmetic::quotient;
 
 /// A row of whole numbers, and the denominator under all of them. In a basis' row the first number is the value, and each equation has
 /// one behind it.
 #[derive(Drop)]
 pub struct WholeRow {
+    /// The numerators.
     pub numbers: Vec<i128>,
+    /// The denominator that all share, above 0 in a basis' row.
     pub bottom: i128,
 }
 
@@ -27,7 +30,7 @@ impl Model for WholeRow {
     ghost view = { λ r. record { numbers = r.numbers.items; bottom = r.bottom } };
 }
 
-// p times each number of a row, less f times the one of another row. False where one doesn't fit.
+/// p times each number of a row, less f times the one of another row. False where one doesn't fit.
 fn combine(new: &mut [i128], p: i128, row: &[i128], f: i128, other: &[i128]) -> bool
     requires new { length new.old ≡ length row.now }
     requires other { length other.now ≡ length row.now }
@@ -43,7 +46,7 @@ fn combine(new: &mut [i128], p: i128, row: &[i128], f: i128, other: &[i128]) -> 
     true
 }
 
-// The greatest divisor of a denominator and of the numbers over it.
+/// The greatest divisor of a denominator and of the numbers over it.
 fn divisor(numbers: &[i128], bottom: i128) -> u128
     requires { pos 0 <ℤ bottom }
     ensures positive { 0 < result }
@@ -61,7 +64,7 @@ fn divisor(numbers: &[i128], bottom: i128) -> u128
     common
 }
 
-// Divides each number by a common divisor.
+/// Divides each number by a common divisor.
 fn divide(numbers: &mut [i128], g: u128)
     requires positive { 0 < g }
     requires divides { (k : ℕ) → k < length numbers.old → g ∣ unsigned_abs (number numbers.old k) }
@@ -98,7 +101,7 @@ pub fn sum_products(xs: &[i128], ys: &[i128]) -> Option<i128>
     Some(total)
 }
 
-// The entry of a unit vector.
+/// The entry of a unit vector.
 fn unit_entry(i: usize, k: usize) -> i128
     ensures one { i ≡ k → result ≡ pos 1 }
     ensures zero { i ≢ k → result ≡ pos 0 }
@@ -157,7 +160,7 @@ impl WholeRow {
         Ok(WholeRow { numbers, bottom })
     }
 
-    // Divides the numbers and the denominator by their greatest common divisor.
+    /// Divides the numbers and the denominator by their greatest common divisor.
     fn reduce(&mut self)
         requires { pos 0 <ℤ self.old.bottom }
         ensures { IsQuotientOf self.old.bottom self.old self.new }

@@ -3,6 +3,7 @@
 mod certificate_texts;
 mod certificates;
 mod faults;
+mod large_certificates;
 mod marks;
 mod outside;
 mod programs;

@@ -4,3 +4,4 @@ pub mod Bounded
 pub mod Around
 pub mod Grown
 pub mod Onward
+mod Outcomes

@@ -1,17 +1,19 @@
 -- How far a search has come, as it is kept.
 use Rattle.std.specs.Prelude.{◌≡◌, ℕ, ◌+◌, ◌*◌, ◌-◌, List, [], ◌∷◌, ◌++◌, length, Bool, true, ℤ}
 use Rattle.std.specs.List.{AllByRecursion}
+use Rattle.rational.specs.Rational.{ℚ}
 use Rattle.program_law.specs.Program.{Program}
 use Rattle.certificate_law.specs.declared.Node.{Node}
 use Rattle.certificate_law.specs.declared.Node.TheVariants.{Branch}
 use Rattle.branching_law.specs.declared.Turn.{Turn}
-use Rattle.branching_law.specs.Nodes.{Search, ForBest}
+use Rattle.branching_law.specs.Nodes.{Search, IsBranch, IsInnerNode}
+use Rattle.branching_law.specs.Paths.{region_of}
 use Rattle.branching_law.specs.Rounding.{IsRounding}
-use Rattle.branching_law.specs.Search.{branches}
+use Rattle.branching_law.specs.Search.{branches, points_of}
 use Rattle.branching_law.specs.Searching.{IsSearching}
 use Rattle.branching_law.specs.Sizes.{HasNumber, IsBranchNumber}
 use Rattle.search_steps.specs.Incumbents.{point_of, HasValue}
-use Rattle.search_steps.specs.Trails.{waiting_of, paths_left, IsTrail, GoesBelow}
+use Rattle.search_steps.specs.Trails.{path_of, waiting_of, paths_left, IsTrail, GoesBelow}
 use Rattle.search_steps.specs.Trees.{nodes_before}
 use Rattle.search_steps.specs.declared.trails.Trail.{Trail}
 use Rattle.search_steps.specs.declared.progress.Progress.{Progress}
@@ -46,9 +48,14 @@ pub record IsBranched (old : Progress) (j : ℕ) (k : ℤ) (new : Progress) : Ty
 abbrev pub work_left : ℕ → Progress → ℕ
 work_left boxes progress = 2 * (boxes - progress.branches) + length (waiting_of progress.trail)
 
--- a search for the best that has taken a node
-pub record HasBegun (p : Program) (bases boxes : ℕ) (more : Bool) (progress : Progress) : Type 0 where
-  pub way : IsOnWay ForBest p bases boxes more progress
+-- at the path at hand the branch at x is due, where there is one
+pub record IsInner (aim : Search) (p : Program) (bases boxes : ℕ) (x : List ℚ) (progress : Progress) : Type 0 where
+  pub way : IsOnWay aim p bases boxes true progress
+  pub inner : (j : ℕ) (k : ℤ) → IsBranch p x j k → IsInnerNode aim p bases (points_of way.nodes) (region_of p (path_of progress.trail)) j k
+
+-- a search that has taken a node
+pub record HasBegun (aim : Search) (p : Program) (bases boxes : ℕ) (more : Bool) (progress : Progress) : Type 0 where
+  pub way : IsOnWay aim p bases boxes more progress
   pub first : Node
   pub others : List Node
   pub taken : way.nodes ≡ first ∷ others

@@ -6,6 +6,7 @@ ghost use Rattle.rational.specs.Rounding.{floor_of};
 ghost use Rattle.program_law.specs.Program.{Program};
 ghost use Rattle.certificate_law.specs.declared.Node.TheVariants.{Branch};
 ghost use Rattle.search_steps.specs.Incumbents.{is_below};
+ghost use Rattle.search_steps.specs.declared.progress.Progress.{Progress};
 ghost use Rattle.search_steps.specs.Progressing.{IsBranched, IsClosed};
 ghost use Rattle.search_steps.specs.Trails.{IsTrail};
 ghost use Rattle.search_steps.specs.Trees.{nodes_before};
@@ -44,7 +45,7 @@ pub fn is_below(value: Frac, incumbent: &Option<Incumbent>) -> bool
     }
 }
 
-// The branch at the floor of a number.
+/// The branch at the floor of a number.
 fn branch_at(column: u32, x: Frac) -> Node
     ensures node { result ≡ Branch column (floor_of x) }
     ensures fits { unsigned_abs (floor_of x) ≤ max_part }
@@ -67,6 +68,15 @@ impl Progress {
             branches: 0,
             incumbent: None,
         })
+    }
+
+    /// Keeps a point as the incumbent, with its value.
+    pub fn keep(&mut self, point: &Vector<Frac>, value: Frac) -> Result<(), Memory>
+        ensures { OnOk result (self.new ≡ record self.old { incumbent = Some (record { point = point.now; value = value }) }) }
+    {
+        let point = point.copied()?;
+        self.incumbent = Some(Incumbent { point, value });
+        Ok(())
     }
 
     /// Puts a leaf, and goes to the next path. Answers whether there is one.

@@ -8,7 +8,7 @@ ghost use Rattle.program_law.specs.Program.{Program};
 ghost use Rattle.branching_law.specs.Paths.{above};
 ghost use Rattle.search_steps.specs.Trails.{path_of, waiting_of, paths_left, IsTrail, GoesBelow};
 
-use crate::turns::{turn_below, whole_before};
+use crate::turns::{turn_at, whole_above, whole_before};
 use branching_law::{Cut, Turn};
 use frac_core::{Frac, Memory, Vector};
 use program_regions::{Descent, Region};
@@ -24,15 +24,7 @@ pub struct Trail {
     pub walk: Descent<Turn>,
 }
 
-// The least whole number above a turn's k.
-fn whole_above(turn: Turn) -> Frac
-    requires { unsigned_abs (turn.k +ℤ pos 1) ≤ max_part }
-    ensures { result ≡ whole (turn.k +ℤ pos 1) }
-{
-    Frac::whole(turn.k + 1)
-}
-
-// The turn to the other side.
+/// The turn to the other side.
 fn other_side(turn: Turn) -> Turn
     ensures { result ≡ above turn.column turn.k }
 {
@@ -71,7 +63,8 @@ impl Trail {
         ensures below { OnOk result (GoesBelow self.old j (floor_of x) self.new) }
         ensures trail { (p : Program) → IsTrail p self.old → OnOk result (IsTrail p self.new) }
     {
-        self.walk.cut_high(j, whole_before(x), turn_below(j, x))?;
+        let turn = turn_at(Cut::Below, j, x);
+        self.walk.cut_high(j, whole_before(x), turn)?;
         Ok(())
     }
 

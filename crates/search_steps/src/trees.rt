@@ -9,7 +9,7 @@ use certificate_law::{Node, Tree, TreeBuilder};
 use frac_core::{Memory, Vector};
 use std::alloc::Global;
 
-// Puts the branch of a turn, and what a turn above leaves.
+/// Puts the branch of a turn, and what a turn above leaves.
 fn put_before(nodes: &mut TreeBuilder, turn: Turn) -> Result<(), Memory>
     ensures { OnOk result (nodes.new ≡ nodes.old ++ nodes_before (turn ∷ [])) }
 {
@@ -20,7 +20,7 @@ fn put_before(nodes: &mut TreeBuilder, turn: Turn) -> Result<(), Memory>
     Ok(())
 }
 
-// Puts what a turn below leaves.
+/// Puts what a turn below leaves.
 fn put_behind(nodes: &mut TreeBuilder, turn: Turn) -> Result<(), Memory>
     ensures { OnOk result (nodes.new ≡ nodes.old ++ nodes_behind (turn ∷ [])) }
 {

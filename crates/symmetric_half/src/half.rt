@@ -4,6 +4,7 @@ ghost use Rattle.symmetric_half.specs.Chain.{row_answered};
 ghost use Rattle.frac_core.specs.Calculated.{Leaves};
 ghost use Rattle.frac_core.specs.Parts.{max_part};
 ghost use Rattle.frac_core.specs.Row.{row_less};
+ghost use Rattle.program_law.specs.Program.{most_columns};
 ghost use Rattle.symmetric_half.specs.Half.{upper_half, IsHalf};
 ghost use Rattle.symmetric_half.specs.Triangle.{start_of, count_of};
 ghost use Rattle.rational.specs.Vectors.{row_at};
@@ -14,28 +15,31 @@ use program_data::Program;
 use std::alloc::Global;
 use std::marker::Model;
 
-/// The upper half of a symmetric matrix of at most 128 rows: of each row the entries from the diagonal on.
+/// The upper half of a symmetric matrix of at most as many rows as a program has columns: of each row the entries from the diagonal on.
 #[derive(Drop)]
 pub struct Half {
+    /// Row after row, from the diagonal on: `size`, `size` - 1, .. and 1 of them.
     entries: Vec<Frac>,
+    /// How many rows there are.
     size: usize,
 }
 
 impl Model for Half {
     ghost use Rattle.std.specs.Prelude.{◌≡◌, ◌≤◌, List, length};
     ghost use Rattle.rational.specs.Rational.{ℚ};
+    ghost use Rattle.program_law.specs.Program.{most_columns};
     ghost use Rattle.symmetric_half.specs.Triangle.{rows_of, count_of};
 
     ghost Value = { List (List ℚ) };
 
     ghost view = { λ h. rows_of h.size h.entries.items };
 
-    ghost invariant = { λ h. (h.size ≤ 128) × (length h.entries.items ≡ count_of h.size) };
+    ghost invariant = { λ h. (h.size ≤ most_columns) × (length h.entries.items ≡ count_of h.size) };
 }
 
-// Where the row at `j` begins and ends.
+/// Where the row at `j` begins and ends.
 fn part_of(size: usize, j: usize) -> (usize, usize)
-    requires size { size ≤ 128 }
+    requires size { size ≤ most_columns }
     requires place { j < size }
     ensures start { result.0 ≡ start_of size j }
     ensures end { result.1 ≡ start_of size j + (size - j) }
@@ -69,7 +73,7 @@ impl Half {
     pub fn size(&self) -> usize
         ensures size { result ≡ length self.now }
         ensures half { IsHalf result self.now }
-        ensures few { result ≤ 128 }
+        ensures few { result ≤ most_columns }
     {
         self.size
     }

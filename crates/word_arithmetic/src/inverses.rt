@@ -6,7 +6,7 @@ ghost use Rattle.std.specs.Int.{◌∣◌};
 
 use crate::divisors::WORD;
 
-// The negative of the inverse of an odd number modulo 2^64. Each of Newton's steps doubles how many digits of it are right.
+/// The negative of the inverse of an odd number modulo 2^64. Each of Newton's steps doubles how many digits of it are right.
 fn negative_inverse(odd: u64) -> u64
     requires { odd % 2 ≡ 1 }
     ensures { 2 ^ 64 ∣ odd * result + 1 }
@@ -31,7 +31,7 @@ pub fn reduced(n: u128, odd: u64) -> u64
     ((n >> 64) as u64).abs_diff((taken >> 64) as u64)
 }
 
-// The negative of the inverse of an odd number modulo 2^128: one more of Newton's steps.
+/// The negative of the inverse of an odd number modulo 2^128: one more of Newton's steps.
 fn wide_negative_inverse(odd: u128) -> u128
     requires { odd % 2 ≡ 1 }
     ensures { 2 ^ 128 ∣ odd * result + 1 }

@@ -7,10 +7,10 @@ ghost use Rattle.std.specs.Prelude.{◌≡◌, pos, ◌+ℤ◌, ◌*ℤ◌, ◌^
 
 use crate::wide::Wide;
 
-// The least size that does not fit 63 bits.
+/// The least size that does not fit 63 bits.
 const SHORT: u128 = 9223372036854775808;
 
-// Whether it is below 2^63 in size.
+/// Whether it is below 2^63 in size.
 fn is_short(n: i128) -> bool
     ensures { IsTrue result ↔ (unsigned_abs n < 2 ^ 63) }
 {

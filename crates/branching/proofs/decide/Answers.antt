@@ -29,36 +29,19 @@ returns-in-Ok-Negative-clause-accepted c =
     (subst (λ (a : Curvature). HasWidth (length c.args.p.now.columns) a) c.in-Ok-Negative.field-0-is c.in-Ok-Negative.ensures.width)
     (subst (λ (a : Curvature). IsCurvatureOf c.args.p.now.pairs a) c.in-Ok-Negative.field-0-is c.in-Ok-Negative.ensures.right)
 
-pub returns-in-Ok-Squares-clause-found : goal.returns-in-Ok-Squares-clause-found
-returns-in-Ok-Squares-clause-found c =
-    found_if c.args.p.now c.args.limits.bases c.args.limits.boxes c.in-Ok-Squares.squares c.convex.result
-    (c.in-Ok-Squares.ensures.calculation ∙ ap (λ (a : Curvature). Ok a) c.in-Ok-Squares.field-0-is) c.convex.ensures.found
-
-pub returns-in-Ok-Squares-clause-good : goal.returns-in-Ok-Squares-clause-good
-returns-in-Ok-Squares-clause-good c =
-    good_if c.args.p.now c.args.limits.bases c.args.limits.boxes c.in-Ok-Squares.squares c.convex.result c.columns-columns.ensures.program
-    (squares_for c.args.p.now _ c.in-Ok-Squares.squares c.columns-columns.ensures.program c.in-Ok-Squares.field-0-is c.in-Ok-Squares.ensures.right c.in-Ok-Squares.ensures.width
-    c.in-Ok-Squares.ensures.few)
-    c.convex.ensures.found
-
-pub returns-in-Ok-Squares-clause-curved : goal.returns-in-Ok-Squares-clause-curved
-returns-in-Ok-Squares-clause-curved c =
-    curved_if c.args.p.now c.in-Ok-Squares.squares c.convex.result
-    (squares_for c.args.p.now _ c.in-Ok-Squares.squares c.columns-columns.ensures.program c.in-Ok-Squares.field-0-is c.in-Ok-Squares.ensures.right c.in-Ok-Squares.ensures.width
-    c.in-Ok-Squares.ensures.few)
-    (good_if c.args.p.now c.args.limits.bases c.args.limits.boxes c.in-Ok-Squares.squares c.convex.result c.columns-columns.ensures.program
-    (squares_for c.args.p.now _ c.in-Ok-Squares.squares c.columns-columns.ensures.program c.in-Ok-Squares.field-0-is c.in-Ok-Squares.ensures.right c.in-Ok-Squares.ensures.width
-    c.in-Ok-Squares.ensures.few)
-    c.convex.ensures.found)
-
-pub returns-in-Ok-Squares-clause-accepted : goal.returns-in-Ok-Squares-clause-accepted
-returns-in-Ok-Squares-clause-accepted c =
-    accepted_if c.args.p.now c.convex.result c.columns-columns.ensures.program
-    (good_if c.args.p.now c.args.limits.bases c.args.limits.boxes c.in-Ok-Squares.squares c.convex.result c.columns-columns.ensures.program
-    (squares_for c.args.p.now _ c.in-Ok-Squares.squares c.columns-columns.ensures.program c.in-Ok-Squares.field-0-is c.in-Ok-Squares.ensures.right c.in-Ok-Squares.ensures.width
-    c.in-Ok-Squares.ensures.few)
-    c.convex.ensures.found)
-    c.convex.ensures.writable
-
-pub returns-in-Ok-Squares-clause-path : goal.returns-in-Ok-Squares-clause-path
-returns-in-Ok-Squares-clause-path c = path_if c.args.p.now c.args.limits.bases c.args.limits.boxes c.convex.result c.convex.ensures.stop
+pub returns-in-Ok-Squares : goal.returns-in-Ok-Squares
+returns-in-Ok-Squares c =
+    let p = c.args.p.now in
+    let is = c.columns-columns.ensures.program in
+    let squares = c.in-Ok-Squares.squares in
+    let known = squares_for p _ squares is c.in-Ok-Squares.field-0-is c.in-Ok-Squares.ensures.right c.in-Ok-Squares.ensures.width c.in-Ok-Squares.ensures.few in
+    let good = good_if p c.args.limits.bases c.args.limits.boxes squares c.convex.result is known c.convex.ensures.found in
+    record {
+      found = found_if p c.args.limits.bases c.args.limits.boxes squares c.convex.result (c.in-Ok-Squares.ensures.calculation ∙ ap (λ (a : Curvature). Ok a) c.in-Ok-Squares.field-0-is) c.convex.ensures.found;
+      good = good;
+      curved = curved_if p squares c.convex.result known good;
+      accepted = accepted_if p c.convex.result is good c.convex.ensures.writable;
+      writable = c.convex.ensures.writable;
+      stop = c.convex.ensures.stop;
+      path = path_if p c.args.limits.bases c.args.limits.boxes c.convex.result c.convex.ensures.stop;
+    }

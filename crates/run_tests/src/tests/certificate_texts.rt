@@ -19,7 +19,7 @@ fn read_program(alloc: Global, text: &str) -> Option<Program> {
     }
 }
 
-// Whether a text is read as a certificate with that very text.
+/// Whether a text is read as a certificate with that very text.
 fn is_written_again(alloc: Global, p: &Program, text: &str) -> bool {
     if text.len() > 1000 {
         return false;

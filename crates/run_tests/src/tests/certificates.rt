@@ -195,6 +195,18 @@ const NEXT_PAST: &str =
 const SUM_PAST: &str =
     "WITHHELD PAST\nSITE CHECK\nOP ADD 170141183460469231731687303715884105727 170141183460469231731687303715884105727\nEND\n";
 
+const SMALL: &str =
+    "ROWS\n N obj\nCOLUMNS\n x obj 0\nQUADOBJ\n x x 1/170141183460469231731687303715884105727\nENDATA\n";
+
+const HALF_PAST: &str =
+    "WITHHELD PAST\nSITE CHECK\nOP DIV 1/170141183460469231731687303715884105727 2\nEND\n";
+
+const COSTLY: &str =
+    "ROWS\n N obj\n L r\nCOLUMNS\n x obj 170141183460469231731687303715884105727 r 1\nRHS\n R r 1\nENDATA\n";
+
+const RESIDUAL_PAST: &str =
+    "WITHHELD PAST\nSITE CHECK\nOP SUB 170141183460469231731687303715884105727 -170141183460469231731687303715884105727\nEND\n";
+
 #[test]
 fn certificates_of_trees_of_a_fraction_between(rt: HostRuntime) -> Result<(), Fail> {
     let alloc = rt.alloc();
@@ -334,6 +346,18 @@ fn certificates_of_values_past_the_limit(rt: HostRuntime) -> Result<(), Fail> {
             "OPTIMAL\nVALUE 0\nPOINT x 1\nPOINT y 1\nBOUND\nEND\n",
             Status::Withheld,
             SUM_PAST,
+        ),
+        (
+            SMALL,
+            "OPTIMAL\nVALUE 0\nPOINT x 1\nBOUND\nEND\n",
+            Status::Withheld,
+            HALF_PAST,
+        ),
+        (
+            COSTLY,
+            "OPTIMAL\nVALUE 0\nBOUND\nY r -170141183460469231731687303715884105727\nEND\n",
+            Status::Withheld,
+            RESIDUAL_PAST,
         ),
     ] {
         assert!(rt;

@@ -85,7 +85,7 @@ fn faults_behind_the_columns(rt: HostRuntime) -> Result<(), Fail> {
     Ok(())
 }
 
-// A program of so many columns, each on a line of its own.
+/// A program of so many columns, each on a line of its own.
 fn columns_alone(alloc: Global, count: u64) -> Result<String, Fail> {
     let mut text = String::from_str(alloc, "ROWS\n N obj\nCOLUMNS\n")?;
     for k in 0..count {
@@ -118,7 +118,7 @@ fn one_column_too_many(rt: HostRuntime) -> Result<(), Fail> {
     Ok(())
 }
 
-// A text of so many comments of 64 bytes, and a small program behind them.
+/// A text of so many comments of 64 bytes, and a small program behind them.
 fn behind_comments(alloc: Global, comments: u64) -> Result<String, Fail> {
     let mut text = String::new(alloc);
     for _ in 0..comments {

@@ -12,7 +12,7 @@ use std::test::Fail;
 const USAGE: &str =
     "usage: qp solve|check|write|sample [--bases N] [--boxes N] [--kind K] [--number N]\n";
 
-// Whether a run whose read with this number fails ends so, with nothing written.
+/// Whether a run whose read with this number fails ends so, with nothing written.
 fn fails_at_a_read(
     alloc: Global,
     word: &str,
@@ -29,7 +29,7 @@ fn fails_at_a_read(
     Ok(ended == Status::ReadFault && sink.bytes() == b"".as_slice())
 }
 
-// Whether a run whose write with this number fails ends so, with this front of its text written.
+/// Whether a run whose write with this number fails ends so, with this front of its text written.
 fn fails_at_a_write(
     alloc: Global,
     word: &str,

@@ -13,6 +13,6 @@ pub(crate) const DECIDED: &str =
 
 pub(crate) const FALLING: &str = "ROWS\n N obj\nCOLUMNS\n x obj -1\nENDATA\n";
 
-// A file as usual tools write it, with blanks in columns and lines that end with CR and LF.
+/// A file as usual tools write it, with blanks in columns and lines that end with CR and LF.
 pub(crate) const PLANT: &str =
     "* plan of one week\r\nNAME          PLANT\r\nROWS\r\n N  COST\r\n G  NEED\r\n N  INFO\r\nCOLUMNS\r\n    MARK0001  'MARKER'                 'INTORG'\r\n    X         COST               3.5   NEED               1.0\r\n    X         INFO                 7\r\n    MARK0002  'MARKER'                 'INTEND'\r\n    Y         COST              2e+0   NEED              1.00\r\nRHS\r\n    RHS       NEED               4.5\r\nBOUNDS\r\n UP BOUND     Y                  2.0\r\nENDATA\r\n";

@@ -33,7 +33,7 @@ pub(crate) fn done<S: Source, T: Sink>(
     Ok(run(alloc, &words, source, sink))
 }
 
-// How a run on an input ends, and what it writes, with so many bytes per read.
+/// How a run on an input ends, and what it writes, with so many bytes per read.
 fn written(
     alloc: Global,
     line: &str,
@@ -50,7 +50,7 @@ fn written(
     Ok((status, text))
 }
 
-// Whether a run on an input ends so and writes this text, with so many bytes per read.
+/// Whether a run on an input ends so and writes this text, with so many bytes per read.
 pub(crate) fn answers_by(
     alloc: Global,
     line: &str,
@@ -65,7 +65,7 @@ pub(crate) fn answers_by(
     Ok(ended == status && bytes.as_slice() == text.as_bytes())
 }
 
-// Whether a run on an input ends so and writes this text.
+/// Whether a run on an input ends so and writes this text.
 pub(crate) fn answers(
     alloc: Global,
     line: &str,
@@ -76,7 +76,7 @@ pub(crate) fn answers(
     answers_by(alloc, line, input, 4096, status, text)
 }
 
-// Whether `check` accepts a certificate behind a program.
+/// Whether `check` accepts a certificate behind a program.
 fn accepts(alloc: Global, program: &[u8], certificate: &[u8]) -> Result<bool, Fail> {
     let mut input = Vec::new(alloc);
     input.extend_from_slice(program)?;
@@ -85,7 +85,7 @@ fn accepts(alloc: Global, program: &[u8], certificate: &[u8]) -> Result<bool, Fa
     Ok(ended == Status::Done && bytes.as_slice() == b"ACCEPTED\n".as_slice())
 }
 
-// What `solve` writes on a program, where it is done and `check` accepts that behind the program.
+/// What `solve` writes on a program, where it is done and `check` accepts that behind the program.
 pub(crate) fn verdict_on(alloc: Global, program: &[u8]) -> Result<Option<Vec<u8>>, Fail> {
     let mut input = Vec::new(alloc);
     input.extend_from_slice(program)?;
@@ -97,7 +97,7 @@ pub(crate) fn verdict_on(alloc: Global, program: &[u8]) -> Result<Option<Vec<u8>
     }
 }
 
-// Whether `solve` writes this certificate on a program, and `check` accepts it.
+/// Whether `solve` writes this certificate on a program, and `check` accepts it.
 pub(crate) fn decides(alloc: Global, program: &[u8], certificate: &[u8]) -> Result<bool, Fail> {
     match verdict_on(alloc, program)? {
         Some(bytes) => Ok(bytes.as_slice() == certificate),
@@ -105,7 +105,7 @@ pub(crate) fn decides(alloc: Global, program: &[u8], certificate: &[u8]) -> Resu
     }
 }
 
-// Whether `solve` writes a certificate that begins so on a program, and `check` accepts it.
+/// Whether `solve` writes a certificate that begins so on a program, and `check` accepts it.
 pub(crate) fn decides_so(alloc: Global, program: &[u8], front: &str) -> Result<bool, Fail> {
     match verdict_on(alloc, program)? {
         Some(bytes) => Ok(bytes.as_slice().starts_with(front.as_bytes())),
@@ -113,7 +113,7 @@ pub(crate) fn decides_so(alloc: Global, program: &[u8], front: &str) -> Result<b
     }
 }
 
-// Whether `solve` with these words withholds its verdict on a program with this text.
+/// Whether `solve` with these words withholds its verdict on a program with this text.
 pub(crate) fn withholds(
     alloc: Global,
     line: &str,

@@ -5,7 +5,7 @@ use qp_engine::Status;
 use std::alloc::Global;
 use std::test::Fail;
 
-// Whether a sample of these words has this text, each time that it is asked for.
+/// Whether a sample of these words has this text, each time that it is asked for.
 fn shows(alloc: Global, words: &str, text: &str) -> Result<bool, Fail> {
     Ok(
         answers(alloc, words, &[], Status::Done, text)?
@@ -13,7 +13,7 @@ fn shows(alloc: Global, words: &str, text: &str) -> Result<bool, Fail> {
     )
 }
 
-// One sample of a larger program, whose kind and number are those that are taken where none are named.
+/// One sample of a larger program, whose kind and number are those that are taken where none are named.
 #[test]
 fn a_sample_of_transport(rt: HostRuntime) -> Result<(), Fail> {
     let alloc = rt.alloc();

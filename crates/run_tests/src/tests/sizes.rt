@@ -4,8 +4,8 @@ use crate::tests::runs::{decides, decides_so};
 use std::alloc::Global;
 use std::test::Fail;
 
-// A line for each number from 1 to `count`: the pattern with the number in the place of `#`, and the next one, after the last
-// the first again, in the place of `@`.
+/// A line for each number from 1 to `count`: the pattern with the number in the place of `#`, and the next one, after the last
+/// the first again, in the place of `@`.
 fn lines(alloc: Global, count: u64, pattern: &str) -> Result<String, Fail> {
     let mut text = String::new(alloc);
     for k in 0..count {
@@ -19,7 +19,7 @@ fn lines(alloc: Global, count: u64, pattern: &str) -> Result<String, Fail> {
     Ok(text)
 }
 
-// Whole lines, and between them lines that repeat.
+/// Whole lines, and between them lines that repeat.
 fn repeated(alloc: Global, count: u64, parts: &[(&str, &str)]) -> Result<String, Fail> {
     let mut text = String::new(alloc);
     for (pattern, line) in parts {
@@ -29,7 +29,7 @@ fn repeated(alloc: Global, count: u64, parts: &[(&str, &str)]) -> Result<String,
     Ok(text)
 }
 
-// Whether `solve` writes on a program a certificate, both with lines that repeat so often, and `check` accepts it.
+/// Whether `solve` writes on a program a certificate, both with lines that repeat so often, and `check` accepts it.
 fn decides_repeated(
     alloc: Global,
     count: u64,
@@ -61,7 +61,7 @@ fn twenty_rows_with_a_best_point(rt: HostRuntime) -> Result<(), Fail> {
     Ok(())
 }
 
-// Each column is above the next by 1, and the last above the first.
+/// Each column is above the next by 1, and the last above the first.
 #[test]
 fn twenty_rows_without_a_point(rt: HostRuntime) -> Result<(), Fail> {
     let program = [
@@ -76,7 +76,7 @@ fn twenty_rows_without_a_point(rt: HostRuntime) -> Result<(), Fail> {
     Ok(())
 }
 
-// No column is above the next, nor the last above the first, so all rise together.
+/// No column is above the next, nor the last above the first, so all rise together.
 #[test]
 fn twenty_rows_without_a_bound(rt: HostRuntime) -> Result<(), Fail> {
     let program = [
@@ -90,7 +90,7 @@ fn twenty_rows_without_a_bound(rt: HostRuntime) -> Result<(), Fail> {
     Ok(())
 }
 
-// The squares of the first columns take away all of the square of the column before the last.
+/// The squares of the first columns take away all of the square of the column before the last.
 #[test]
 fn twenty_columns_that_are_not_convex(rt: HostRuntime) -> Result<(), Fail> {
     let program = [
@@ -124,8 +124,8 @@ fn as_many_rows_and_columns_as_there_may_be(rt: HostRuntime) -> Result<(), Fail>
     Ok(())
 }
 
-// A choice among 40 kinds of things by their worth and their room, as often as wished. The best worth was calculated apart, room by
-// room.
+/// A choice among 40 kinds of things by their worth and their room, as often as wished. The best worth was calculated apart, room by
+/// room.
 #[test]
 fn forty_marked_columns(rt: HostRuntime) -> Result<(), Fail> {
     let alloc = rt.alloc();

@@ -191,7 +191,7 @@ fn branches_that_are_spent(rt: HostRuntime) -> Result<(), Fail> {
     Ok(())
 }
 
-// Without a bound below, so the search is for a point alone, which takes less time.
+/// Without a bound below, so the search is for a point alone, which takes less time.
 #[test]
 fn the_largest_budget_of_branches(rt: HostRuntime) -> Result<(), Fail> {
     let alloc = rt.alloc();

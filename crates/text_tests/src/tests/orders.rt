@@ -2,7 +2,7 @@ use qp_words::{Order, Task, order_of};
 use std::alloc::Global;
 use std::test::Fail;
 
-// What words with blanks between them order.
+/// What words with blanks between them order.
 fn ordered(alloc: Global, line: &str) -> Result<Option<Order>, Fail> {
     let mut words = Vec::new(alloc);
     for word in line.split(' ') {

@@ -24,7 +24,7 @@ fn end_faults(rt: HostRuntime) {
     assert!(rt; has_fault(&rt, range, 9, FaultKind::RangePast));
 }
 
-// A comment of 64 bytes with its line feed, so often.
+/// A comment of 64 bytes with its line feed, so often.
 fn comments(rt: &HostRuntime, count: u32) -> Result<String, Fail> {
     let mut text = String::new(rt.alloc());
     for _ in 0..count {
@@ -33,7 +33,7 @@ fn comments(rt: &HostRuntime, count: u32) -> Result<String, Fail> {
     Ok(text)
 }
 
-// So many lines behind a text, each with a number.
+/// So many lines behind a text, each with a number.
 fn numbered(
     rt: &HostRuntime,
     front: &str,

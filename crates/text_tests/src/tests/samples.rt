@@ -6,7 +6,7 @@ use sample_make::sample;
 use std::alloc::Global;
 use std::test::Fail;
 
-// How many rows and columns a sample has.
+/// How many rows and columns a sample has.
 fn counts(alloc: Global, kind: u8, number: u64) -> Result<(u32, u32), Fail>
     requires some { 1 ≤ kind }
     requires few { kind ≤ 3 }

@@ -6,7 +6,7 @@ use program_data::{Column, Name, Program, Row, is_marker, is_row};
 use std::alloc::Global;
 use std::test::Fail;
 
-// A number of small parts, or nothing where the denominator is 0.
+/// A number of small parts, or nothing where the denominator is 0.
 fn number(num: i8, den: u8) -> Option<Frac> {
     match Frac::of_parts(i128::from(num), i128::from(den)) {
         Ok(number) => Some(number),
@@ -82,7 +82,7 @@ fn has_text(alloc: Global, p: &Program, text: &[u8]) -> bool {
     write(alloc, p, &mut out).is_ok() && out.as_slice() == text
 }
 
-// x + x^2 + xy + y^2 with 3 <= x + y <= 5, x >= 0 and y <= -1
+/// x + x^2 + xy + y^2 with 3 <= x + y <= 5, x >= 0 and y <= -1
 #[test]
 fn a_range_and_a_triangle(rt: HostRuntime) -> Result<(), Fail> {
     let alloc = rt.alloc();
@@ -102,7 +102,7 @@ fn a_range_and_a_triangle(rt: HostRuntime) -> Result<(), Fail> {
     Ok(())
 }
 
-// Names that are words elsewhere, a marked stretch, crossed bounds, and a low bound 0 under a negative high one.
+/// Names that are words elsewhere, a marked stretch, crossed bounds, and a low bound 0 under a negative high one.
 #[test]
 fn names_and_bounds(rt: HostRuntime) -> Result<(), Fail> {
     let alloc = rt.alloc();
@@ -125,7 +125,7 @@ fn names_and_bounds(rt: HostRuntime) -> Result<(), Fail> {
     Ok(())
 }
 
-// A stretch that is begun at the end, and no other sections.
+/// A stretch that is begun at the end, and no other sections.
 #[test]
 fn a_marked_column_alone(rt: HostRuntime) -> Result<(), Fail> {
     let alloc = rt.alloc();

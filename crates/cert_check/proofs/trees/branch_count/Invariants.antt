@@ -1,5 +1,5 @@
 use Rattle.std.proofs.Common.{◌≡◌, ◌+◌, ◌≤◌, drop}
-use Rattle.cert_check.specs.Walk.{branches}
+use Rattle.cert_check.specs.Branches.{branches}
 use Rattle.cert_check.proofs.trees.branch_count.Given as goal
 
 -- what is counted so far and what is left give the whole

@@ -3,7 +3,8 @@ use Rattle.std.proofs.Common.{◌≡◌, ◌+◌, ◌≤◌, [], ◌∷◌, leng
 use Rattle.program_law.specs.Program.{bounds}
 use Rattle.certificate_law.specs.Fits.{FitsNode}
 use Rattle.cert_check_law.specs.Tree.{nodes_from}
-use Rattle.cert_check.specs.Walk.{waiting_of, branches}
+use Rattle.check_nodes.specs.Walk.{waiting_of}
+use Rattle.cert_check.specs.Branches.{branches}
 use Rattle.cert_check.proofs.trees.tree_tested.Given as goal
 
 -- the walk goes on with the region at hand and those that wait, and there is room for the branches that are left

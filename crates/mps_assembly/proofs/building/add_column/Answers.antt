@@ -1,8 +1,8 @@
 use Rattle.std.proofs.Common.{sym, ◌∙◌, ◌≡◌, List, [], ℕ, Some}
 use Rattle.std.specs.Prelude.{slice_get}
-use Rattle.mps_grammar.specs.Told.{names_of}
+use Rattle.named_things.specs.Named.{names_of}
 use Rattle.named_things.specs.Names.{name_at}
-use Rattle.mps_assembly.proofs.FirstLines.{read_at}
+use Rattle.mps_tables.proofs.FirstLines.{read_at}
 use Rattle.mps_assembly.proofs.Additions.{column-absent, column-step, on_ok}
 use Rattle.mps_assembly.proofs.building.add_column.Goals as goal
 

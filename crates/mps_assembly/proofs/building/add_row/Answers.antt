@@ -1,11 +1,12 @@
 use Rattle.std.proofs.Common.{sym, ap, ◌∙◌, ◌≡◌, List, [], ℕ, length, take, Some, arith}
 use Rattle.std.specs.Prelude.{slice_get}
 use Rattle.program_law.specs.Program.{Program}
-use Rattle.mps_grammar.specs.Told.{names_of, program_rows}
+use Rattle.named_things.specs.Named.{names_of}
+use Rattle.mps_grammar.specs.Told.{program_rows}
 use Rattle.mps_grammar.specs.Programs.{row_of}
 use Rattle.named_things.specs.Names.{name_at}
 use Rattle.mps_assembly.proofs.Programs.{map-length}
-use Rattle.mps_assembly.proofs.FirstLines.{read_at}
+use Rattle.mps_tables.proofs.FirstLines.{read_at}
 use Rattle.mps_assembly.proofs.Additions.{bound-fewer, row-absent, row-step, on_ok}
 use Rattle.mps_assembly.proofs.building.add_row.Goals as goal
 

@@ -1,5 +1,5 @@
 use Rattle.std.proofs.Common.{◌≡◌, take, []}
-use Rattle.mps_grammar.specs.Told.{names_of}
+use Rattle.named_things.specs.Named.{names_of}
 use Rattle.mps_notes.specs.Told.{tellings_of}
 use Rattle.mps_assembly.specs.Assembled.{assembled}
 use Rattle.mps_assembly.proofs.numbers.set_entries.Given as goal

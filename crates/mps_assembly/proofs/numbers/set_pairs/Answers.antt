@@ -1,6 +1,6 @@
 use Rattle.std.proofs.Common.{sym, ap, ◌∙◌, ◌≡◌, take, List}
 use Rattle.std.proofs.lemmas.List.{take_all}
-use Rattle.mps_grammar.specs.Told.{names_of}
+use Rattle.named_things.specs.Named.{names_of}
 use Rattle.mps_notes.specs.declared.numbers.Entry.{Entry}
 use Rattle.mps_notes.specs.Told.{tellings_of}
 use Rattle.mps_assembly.specs.Assembled.{assembled}

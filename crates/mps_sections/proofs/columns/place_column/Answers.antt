@@ -1,5 +1,5 @@
 use Rattle.std.proofs.Common.{sym, ◌∙◌, arith}
-use Rattle.mps_grammar.specs.Told.{names_of}
+use Rattle.named_things.specs.Named.{names_of}
 use Rattle.named_things.proofs.PlaceLemmas.{place_below}
 use Rattle.mps_notes.proofs.RowLemmas.{names_length}
 use Rattle.mps_sections.proofs.EntryLines.{column_put}

@@ -1,9 +1,9 @@
 use Rattle.std.proofs.Common.{Ok, Err, sym}
 use Rattle.mps_tokens.specs.Numbers.{number_of}
-use Rattle.mps_grammar.specs.Told.{names_of}
+use Rattle.named_things.specs.Named.{names_of}
 use Rattle.mps_fields.specs.Views.{viewed_pairs}
 use Rattle.mps_fields.proofs.Words.{word_name, entries_word, head_short}
-use Rattle.mps_sections.proofs.Puts.{items_within, within_length, resolved}
+use Rattle.mps_notes.proofs.Puts.{items_within, within_length, resolved}
 use Rattle.mps_sections.proofs.EntryLines.{entries_fail, entries_go}
 use Rattle.mps_sections.proofs.columns.take_entries.Goals as goal
 

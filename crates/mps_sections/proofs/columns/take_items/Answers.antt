@@ -3,7 +3,7 @@ use Rattle.std.proofs.lemmas.Result.{err_from_is_err_and}
 use Rattle.mps_grammar.specs.Told.{is_told}
 use Rattle.mps_grammar.specs.Faults.{gives_twice}
 use Rattle.mps_notes.specs.Notes.{told_in}
-use Rattle.mps_sections.specs.Steps.{is_counted}
+use Rattle.mps_notes.specs.Twice.{is_counted}
 use Rattle.mps_sections.proofs.EntryLines.{test_from, given_twice, column_fails, items_put}
 use Rattle.mps_sections.proofs.columns.take_items.Goals as goal
 

@@ -1,7 +1,8 @@
 use Rattle.std.proofs.Common.{Ok, Err, sym}
-use Rattle.mps_grammar.specs.Told.{names_of, quadratic_number}
+use Rattle.named_things.specs.Named.{names_of}
+use Rattle.mps_grammar.specs.Told.{quadratic_number}
 use Rattle.mps_fields.specs.Views.{viewed_pairs}
-use Rattle.mps_sections.proofs.Puts.{items_within, within_length}
+use Rattle.mps_notes.proofs.Puts.{items_within, within_length}
 use Rattle.mps_sections.proofs.PairLines.{resolved_half, pairs_fail, pairs_go}
 use Rattle.mps_sections.proofs.quadratic.take_pairs.Goals as goal
 

@@ -1,7 +1,7 @@
 use Rattle.std.proofs.Common.{sym, ap, ◌∙◌}
 use Rattle.std.specs.Prelude.{is_some}
 use Rattle.program_law.specs.Places.{place_of}
-use Rattle.mps_grammar.specs.Told.{names_of}
+use Rattle.named_things.specs.Named.{names_of}
 use Rattle.mps_sections.proofs.RowLines.{row_put, none_found}
 use Rattle.mps_sections.proofs.row_lines.take_named.Goals as goal
 

@@ -1,8 +1,8 @@
 use Rattle.std.proofs.Common.{Ok, Err, sym}
 use Rattle.mps_tokens.specs.Numbers.{number_of}
-use Rattle.mps_grammar.specs.Told.{names_of}
+use Rattle.named_things.specs.Named.{names_of}
 use Rattle.mps_fields.specs.Views.{viewed_pairs}
-use Rattle.mps_sections.proofs.Puts.{items_within, within_length, resolved}
+use Rattle.mps_notes.proofs.Puts.{items_within, within_length, resolved}
 use Rattle.mps_sections.proofs.SideLines.{sides_fail, sides_go}
 use Rattle.mps_sections.proofs.sides.take_sides.Goals as goal
 

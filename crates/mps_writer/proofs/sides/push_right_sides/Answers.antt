@@ -6,5 +6,5 @@ use Rattle.mps_writer.proofs.sides.push_right_sides.Goals as goal
 pub loop-i-preserved : goal.loop-i-preserved
 loop-i-preserved c =
     section_more (codes "RHS") (constant_lines c.args.p.now) c.loop-i.i (side_lines c.args.p.now) _ _ _ _ _ c.loop-i.invariant
-    (rw (c.row_name.ensures, c.right_side.ensures, c.row.ensures.entry) at c.in_ok-begun-2.ensures.ok)
-    (rw (c.row_name.ensures, c.right_side.ensures, c.row.ensures.entry) at c.in_ok-begun-2.ensures.begun)
+    (rw (c.row_name.ensures, c.right_side.ensures, c.row.ensures.bounds) at c.in_ok-begun-2.ensures.ok)
+    (rw (c.row_name.ensures, c.right_side.ensures, c.row.ensures.bounds) at c.in_ok-begun-2.ensures.begun)

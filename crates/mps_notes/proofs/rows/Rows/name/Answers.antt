@@ -1,5 +1,5 @@
 use Rattle.program_law.specs.Program.{IsName, marker}
-use Rattle.mps_grammar.specs.Told.{names_of}
+use Rattle.named_things.specs.Named.{names_of}
 use Rattle.mps_notes.proofs.RowLemmas.{names_kinds, all_at}
 use Rattle.mps_notes.proofs.RowsFound.{absent_differs_at}
 use Rattle.mps_notes.proofs.rows.Rows.name.Goals as goal

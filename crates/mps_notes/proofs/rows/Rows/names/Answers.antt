@@ -1,5 +1,5 @@
 use Rattle.std.proofs.Common.{sym, ap, ◌∙◌}
-use Rattle.mps_grammar.specs.Told.{names_of}
+use Rattle.named_things.specs.Named.{names_of}
 use Rattle.mps_notes.proofs.RowLemmas.{names_kinds}
 use Rattle.mps_notes.proofs.rows.Rows.names.Goals as goal
 

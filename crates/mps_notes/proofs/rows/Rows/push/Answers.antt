@@ -1,6 +1,6 @@
 use Rattle.std.proofs.Common.{◌≡◌, None, sym, ◌∙◌}
 use Rattle.program_law.specs.Places.{place_of}
-use Rattle.mps_grammar.specs.Told.{names_of}
+use Rattle.named_things.specs.Named.{names_of}
 use Rattle.mps_notes.specs.Rows.{kinds_of}
 use Rattle.mps_notes.proofs.RowLemmas.{names_kinds}
 use Rattle.mps_notes.proofs.RowsPushed.{bound_done, free_done}

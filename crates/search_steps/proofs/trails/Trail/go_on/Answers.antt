@@ -1,6 +1,6 @@
 use Rattle.std.proofs.Common.{refl, ap, ◌∙◌}
 use Rattle.program_law.specs.Region.{cut_low}
-use Rattle.program_data.proofs.Outcomes.{done}
+use Rattle.search_steps.proofs.Outcomes.{done}
 use Rattle.search_steps.proofs.Ways.{turned_trail}
 use Rattle.search_steps.proofs.trails.Trail.go_on.Goals as goal
 

@@ -1,0 +1,4 @@
+pub mod Zeroed
+pub mod LastSet
+pub mod Leaves
+pub mod TextFound

@@ -1,8 +1,0 @@
-use Rattle.std.proofs.Common.{◌≡◌, take}
-use Rattle.mps_grammar.specs.Told.{names_of}
-use Rattle.mps_notes.specs.Told.{bounds_of}
-use Rattle.mps_assembly.specs.Bounding.{boundings_of}
-use Rattle.mps_assembly.proofs.columns.bounded_columns.Given as goal
-
-abbrev pub invariant-loop-bound : goal.invariant-loop-bound
-invariant-loop-bound l = l.columns.items ≡ boundings_of l.draft.columns (bounds_of (names_of l.draft.columns) (take l.bound-index l.bounds))

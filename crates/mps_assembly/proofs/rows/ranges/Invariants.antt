@@ -1,9 +1,0 @@
-use Rattle.std.proofs.Common.{◌≡◌, take}
-use Rattle.mps_grammar.specs.Told.{names_of}
-use Rattle.mps_notes.specs.Told.{tellings_of}
-use Rattle.mps_notes.specs.Notes.{no_column}
-use Rattle.mps_assembly.specs.ByRow.{ranges_of}
-use Rattle.mps_assembly.proofs.rows.ranges.Given as goal
-
-abbrev pub invariant-loop-range : goal.invariant-loop-range
-invariant-loop-range l = l.ranges ≡ ranges_of (names_of l.draft.rows) (tellings_of no_column (names_of l.draft.rows) (take l.range-index l.told))

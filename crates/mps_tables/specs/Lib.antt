@@ -1,0 +1,4 @@
+pub mod Ranged
+pub mod Bounding
+pub mod ByRow
+pub mod PairTable

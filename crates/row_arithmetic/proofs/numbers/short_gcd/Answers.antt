@@ -1,9 +1,0 @@
-use Rattle.std.proofs.Common.{sym, ap, ◌∙◌}
-use Rattle.rational.specs.Divisors.{gcd_of, gcd_step, gcd-zero}
-use Rattle.row_arithmetic.proofs.numbers.short_gcd.Goals as goal
-
-pub loop-y-preserved : goal.loop-y-preserved
-loop-y-preserved c = gcd_step c.loop-y.x c.loop-y.y ∙ c.loop-y.invariant
-
-pub returns : goal.returns
-returns c = sym (gcd-zero c.loop-y.x) ∙ ap (gcd_of c.loop-y.x) (sym c.loop-y-test.false) ∙ c.loop-y.invariant
